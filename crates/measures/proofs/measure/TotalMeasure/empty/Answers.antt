@@ -1,0 +1,6 @@
+use borrow.Author.Needs.{needs}
+use Rattle.measures.specs.Totals.{total-ext}
+use Rattle.measures.proofs.measure.TotalMeasure.empty.Needs as need
+
+pub returns : need.returns
+returns c = total-ext _ _ (search needs) (search needs)

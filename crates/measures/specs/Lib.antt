@@ -1,0 +1,5 @@
+pub mod Laws
+pub mod Totals
+pub mod Ranges
+pub mod Unions
+pub mod Markings

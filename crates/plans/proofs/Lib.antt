@@ -1,0 +1,10 @@
+pub mod Sums
+pub mod Exchange
+pub mod GroupSums
+pub mod Earliest
+pub mod Places
+pub mod Dims
+pub mod Filled
+pub mod LeastNeed
+pub mod Cells
+pub mod Planning

@@ -1,0 +1,10 @@
+pub mod Sizing
+pub mod Sixes
+pub mod Products
+pub mod Limited
+pub mod Making
+pub mod Held
+pub mod Masks
+pub mod Bits
+pub mod Numbering
+pub mod Insides

@@ -1,0 +1,5 @@
+pub mod Arrays
+pub mod Limits
+pub mod Views
+pub mod Refusals
+pub mod Laws
