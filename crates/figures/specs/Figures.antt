@@ -4,11 +4,13 @@ use mathlib.Core.List.{List, [], _∷_}
 use mathlib.Core.Bool.{cond}
 use Prim.Native.Nat.{ℕ, _+_, _-_, _≤_}
 use lib.Dec.{eqb, lit≤}
+use lib.ListN.{length}
 use Rattle.shapes.specs.declared.dims.Dim.{Dim}
 use Rattle.shapes.specs.declared.readings.Reading.{Reading}
-use Rattle.shapes.specs.Arrays.{Group, mask}
+use Rattle.shapes.specs.Arrays.{Group, mask, groups}
 use Rattle.measures.specs.Ranges.{no-range, range-join, range-lift, range-columns}
 use Rattle.measures.specs.Markings.{marks-lift, marks-columns}
+use Rattle.cubes.specs.Handing.{handing}
 use Rattle.plans.specs.Plans.{need, earliest, plan-place, plan-adds, plan-need}
 
 abbrev pub cut : ℕ → ℕ → Dim
@@ -56,6 +58,8 @@ pub record Figures : Type 0 where
   pub uneven-zero-one : need uneven zero-one (earliest zero-one) ≡ 31
   pub small-need : plan-need small ≡ 9
   pub single-need : plan-need (cut 1 1 ∷ []) ≡ 2
+  -- the blocks that a scan of the plan hands out
+  pub equal-blocks : length (handing equal (plan-place equal) (plan-adds equal) (groups 3)) ≡ 125
   -- a range of one reading, joined with none; marks of two readings on one bit
   pub range-of-seven : range-columns (range-join (range-lift (reading 7 (lit≤ tt))) no-range) ≡ 7 ∷ 7 ∷ []
   pub marks-of-three : marks-columns (marks-lift (reading 3 (lit≤ tt))) ≡ 8 ∷ []

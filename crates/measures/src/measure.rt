@@ -2,10 +2,10 @@
 ghost use mathlib.Core.Path.{_≡_};
 ghost use mathlib.Core.Bool.{true};
 ghost use mathlib.Core.List.{List};
-ghost use Prim.Native.Nat.{ℕ};
+ghost use Prim.Native.Nat.{ℕ, min, max};
 ghost use lib.ListN.{length, getD};
 ghost use Rattle.measures.specs.Laws.{Lawful, total};
-ghost use Rattle.measures.specs.Totals.{no-total, total-join, total-lift, total-columns, total-wide, total-lawful};
+ghost use Rattle.measures.specs.Totals.{stopped-sum, no-total, total-join, total-lift, total-columns, total-wide, total-lawful};
 ghost use Rattle.measures.specs.Ranges.{no-range, range-join, range-lift, range-columns, range-wide, range-lawful};
 ghost use Rattle.measures.specs.Markings.{no-marks, marks-join, marks-lift, marks-columns, marks-wide, marks-lawful};
 ghost use Rattle.shapes.specs.declared.readings.Reading.{Reading};
@@ -73,6 +73,24 @@ pub trait Measure: Copy {
         ensures { λ r. ⌜ r ≡ getD (columns (now (self .entry))) i 0 ⌝ };
 }
 
+fn stopped_sum(a: u64, b: u64) -> u64
+    ensures { λ r. ⌜ r ≡ stopped-sum a b ⌝ }
+{
+    a.saturating_add(b)
+}
+
+fn lower(a: u32, b: u32) -> u32
+    ensures { λ r. ⌜ r ≡ min a b ⌝ }
+{
+    a.min(b)
+}
+
+fn higher(a: u32, b: u32) -> u32
+    ensures { λ r. ⌜ r ≡ max a b ⌝ }
+{
+    a.max(b)
+}
+
 pub impl Measure for Total as TotalMeasure {
     const LETTER: u8 = b'T';
 
@@ -115,8 +133,8 @@ pub impl Measure for Total as TotalMeasure {
 
     fn join(self, other: Total) -> Total {
         Total {
-            count: self.count.saturating_add(other.count),
-            sum: self.sum.saturating_add(other.sum),
+            count: stopped_sum(self.count, other.count),
+            sum: stopped_sum(self.sum, other.sum),
         }
     }
 
@@ -178,8 +196,8 @@ pub impl Measure for Range as RangeMeasure {
 
     fn join(self, other: Range) -> Range {
         Range {
-            low: self.low.min(other.low),
-            high: self.high.max(other.high),
+            low: lower(self.low, other.low),
+            high: higher(self.high, other.high),
         }
     }
 

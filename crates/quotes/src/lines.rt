@@ -73,8 +73,8 @@ fn field(text: &[u8]) -> Option<Dim>
     Some(Dim { size, edge })
 }
 
-/// The dimensions that a line names, or none where it is no list of fields.
-pub fn read_dims(heap: Global, line: &[u8]) -> Result<Option<Vec<Dim>>, AllocError>
+// The dimensions that a line names, or none where it is no list of fields.
+pub(crate) fn read_dims(heap: Global, line: &[u8]) -> Result<Option<Vec<Dim>>, AllocError>
     ensures { λ r. ⌜ made r (λ o. mapped vec-items o ≡ line-dims (now (line .entry))) ⌝ }
 {
     let mut dims = Vec::new(heap);
@@ -93,8 +93,8 @@ pub fn read_dims(heap: Global, line: &[u8]) -> Result<Option<Vec<Dim>>, AllocErr
     Ok(Some(dims))
 }
 
-/// A line without the carriage return at its end.
-pub fn trim(line: &[u8]) -> &[u8]
+// A line without the carriage return at its end.
+pub(crate) fn trim(line: &[u8]) -> &[u8]
     ensures { λ r. ⌜ now r ≡ trimmed (now (line .entry)) ⌝ }
 {
     let n = line.len();

@@ -50,6 +50,12 @@ fn mixed_number(radices: [u32; 6], digits: [u32; 6]) -> u64
     s
 }
 
+fn edge_of(own: Dim) -> u32
+    ensures { λ r. ⌜ r ≡ own .edge ⌝ }
+{
+    own.edge
+}
+
 fn chunk_count(d: Dim) -> u32
     requires { ⌜ 1 ≤ d .edge ⌝ }
     ensures { λ r. ⌜ r ≡ chunks d ⌝ }
@@ -96,7 +102,7 @@ impl Shape {
     {
         let mut e = [1; 6];
         for i in 0..self.n {
-            e[i] = self.dim_at(i).edge;
+            e[i] = edge_of(self.dim_at(i));
         }
         e
     }

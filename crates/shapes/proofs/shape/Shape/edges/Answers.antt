@@ -15,8 +15,8 @@ loop-i-again c =
     let ds = dims-of s in
     let n = dims-long s in
     let few = dims-few s in
-    held-more s 1 (edges ds) (length-map ds (λ (d : Dim). d .edge)) (c .loop-i .e) (c .loop-i .i) (c .dim-at .result .edge) (c .loop-i-test .taken) (c .loop-i .inv)
-    (ap (λ (d : Dim). d .edge) (c .dim-at .ensures .0) ∙ sym (edge-at ds (c .loop-i .i) (omega arith)))
+    held-more s 1 (edges ds) (length-map ds (λ (d : Dim). d .edge)) (c .loop-i .e) (c .loop-i .i) (c .edge-of .result) (c .loop-i-test .taken) (c .loop-i .inv)
+    (c .edge-of .ensures ∙ (ap (λ (d : Dim). d .edge) (c .dim-at .ensures .0) ∙ sym (edge-at ds (c .loop-i .i) (omega arith))))
 
 pub returns : need.returns
 returns c =

@@ -1,0 +1,11 @@
+pub mod Meanings
+pub mod Summaries
+pub mod Scans
+pub mod Handing
+pub mod Control
+pub mod HandingLaws
+pub mod SummaryLaws
+pub mod Progress
+pub mod Examples
+pub mod Turns
+pub mod BetweenHands

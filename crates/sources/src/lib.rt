@@ -1,0 +1,41 @@
+// Sources of chunks, over any measure: a table of rows, and a layer of corrections over any source.
+mod cells;
+mod corrections;
+mod refusals;
+mod rows;
+mod source;
+mod table;
+#[cfg(test)]
+mod tests;
+
+pub use cells::empty_cells;
+pub use corrections::CorrectionsShaped;
+pub use corrections::CorrectionsSource;
+pub use refusals::CorrectionRefusal;
+pub use refusals::CorrectionRefusalCause;
+pub use refusals::CorrectionRefusalDebug;
+pub use refusals::CorrectionRefusalEq;
+pub use refusals::CorrectionRefusalPartialEq;
+pub use refusals::RowRefusal;
+pub use refusals::RowRefusalCause;
+pub use refusals::RowRefusalDebug;
+pub use refusals::RowRefusalEq;
+pub use refusals::RowRefusalPartialEq;
+pub use refusals::SourceRefusal;
+pub use refusals::SourceRefusalCause;
+pub use refusals::SourceRefusalDebug;
+pub use refusals::SourceRefusalEq;
+pub use refusals::SourceRefusalPartialEq;
+pub use rows::Row;
+pub use rows::RowTable;
+pub use rows::RowTableShaped;
+pub use rows::RowTableSource;
+pub use source::Shaped;
+pub use source::Source;
+pub use source::check_room;
+pub use source::fetch_twice;
+pub use table::Correction;
+pub use table::CorrectionDebug;
+pub use table::CorrectionEq;
+pub use table::CorrectionPartialEq;
+pub use table::Corrections;
