@@ -51,23 +51,25 @@ fn is_in_range(shape: &Shape, row: Row) -> bool
     is_inside(shape, row.at) && row.reading <= Reading::LIMIT
 }
 
-// The storage number and the offset of a row's cell, or none where the row is out of range.
-fn place_of(shape: &Shape, row: Row) -> Option<(u64, u32)>
-    ensures { λ r. ⌜ r ≡ place (dims-of (now (shape .entry))) row ⌝ }
-{
-    if !is_in_range(shape, row) {
-        return None;
+impl Row {
+    /// The storage number and the offset of the row's cell, or none where the row is out of range.
+    pub fn place(self, shape: &Shape) -> Option<(u64, u32)>
+        ensures { λ r. ⌜ r ≡ place (dims-of (now (shape .entry))) self ⌝ }
+    {
+        if !is_in_range(shape, self) {
+            return None;
+        }
+        let chunk = shape.storage_number(shape.chunk_of(self.at))?;
+        let offset = shape.offset(shape.local_of(self.at))?;
+        Some((chunk, offset))
     }
-    let chunk = shape.storage_number(shape.chunk_of(row.at))?;
-    let offset = shape.offset(shape.local_of(row.at))?;
-    Some((chunk, offset))
 }
 
 // Joins a row to its cell, where that lies in the chunk with this number.
 fn join_row<M: Measure>(shape: &Shape, row: Row, number: u64, cells: &mut [M])
     ensures { λ _. ⌜ now (cells .exit) ≡ joined-with empty op (row-value empty op lifted (dims-of (now (shape .entry))) (row ∷ []) number) (now (cells .entry)) ⌝ }
 {
-    let Some((chunk, offset)) = place_of(shape, row) else {
+    let Some((chunk, offset)) = row.place(shape) else {
         return;
     };
     if chunk == number {

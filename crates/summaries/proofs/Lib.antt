@@ -1,0 +1,4 @@
+pub mod Chunkwise
+pub mod Agreeing
+pub mod Fetched
+pub mod Answering
