@@ -11,6 +11,7 @@ use Rattle.shapes.specs.Arrays.{Group, mask, groups}
 use Rattle.measures.specs.Ranges.{no-range, range-join, range-lift, range-columns}
 use Rattle.measures.specs.Markings.{marks-lift, marks-columns}
 use Rattle.cubes.specs.Handing.{handing}
+use Rattle.chunk_writers.specs.Written.{made-entry}
 use Rattle.plans.specs.Plans.{need, earliest, plan-place, plan-adds, plan-need}
 
 abbrev pub cut : ℕ → ℕ → Dim
@@ -64,3 +65,6 @@ pub record Figures : Type 0 where
   pub range-of-seven : range-columns (range-join (range-lift (reading 7 (lit≤ tt))) no-range) ≡ 7 ∷ 7 ∷ []
   pub marks-of-three : marks-columns (marks-lift (reading 3 (lit≤ tt))) ≡ 8 ∷ []
   pub marks-of-sixty-seven : marks-columns (marks-lift (reading 67 (lit≤ tt))) ≡ 8 ∷ []
+  -- chunks of ten cells: with four filled the writer's kind is 0, with five it is 1
+  pub four-of-ten : made-entry 10 0 4 .kind ≡ 0
+  pub five-of-ten : made-entry 10 0 5 .kind ≡ 1

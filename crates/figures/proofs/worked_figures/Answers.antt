@@ -26,4 +26,6 @@ returns c = record {
   range-of-seven = refl;
   marks-of-three = refl;
   marks-of-sixty-seven = refl;
+  four-of-ten = refl;
+  five-of-ten = refl;
 }

@@ -1,0 +1,9 @@
+pub mod Directories
+pub mod Opening
+pub mod Encoded
+pub mod Spelled
+pub mod Formed
+pub mod Parts
+pub mod Pairings
+pub mod Wordings
+pub mod Fetching

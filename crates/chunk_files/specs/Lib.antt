@@ -1,0 +1,4 @@
+pub mod Layouts
+pub mod Refusals
+pub mod Bodies
+pub mod Contents

@@ -1,0 +1,12 @@
+pub mod Sorting
+pub mod Pairing
+pub mod Chunked
+pub mod Twice
+pub mod Putting
+pub mod Segmented
+pub mod Filed
+pub mod Tabled
+pub mod Answered
+pub mod Trips
+pub mod Returned
+pub mod Meant

@@ -1,0 +1,8 @@
+use mathlib.Core.Path.{_≡_, _∙_}
+use native.Mathlib.Omega.{arith}
+use Rattle.chunk_files.specs.Layouts.{le2}
+use Rattle.chunk_writers.proofs.Putting.{put-is}
+use Rattle.chunk_writers.proofs.puts.put_half.Needs as need
+
+pub returns : need.returns
+returns c = put-is (c .args .out .now) (c .copy-from-slice .last .self) (le2 (c .args .h)) (c .args .at) _ (c .copy-from-slice .ensures .after ∙ c .to-le-bytes-b .ensures) (omega arith)
