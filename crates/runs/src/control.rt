@@ -89,7 +89,7 @@ fn next_from(tree: &Tree, table: &ProgressTable, passed: u64, from: usize) -> Op
 
 impl Control {
     // Before the first chunk.
-    pub fn start(tree: Tree) -> Control
+    pub(crate) fn start(tree: Tree) -> Control
         ensures { λ r. ⌜ Starts tree r ⌝ }
     {
         Control {
@@ -102,7 +102,7 @@ impl Control {
     }
 
     // A chunk was passed: the root is next.
-    pub fn pass(&mut self)
+    pub(crate) fn pass(&mut self)
         requires controlled { ⌜ Is-controlled (now self) ⌝ }
         requires idle { ⌜ now self .next ≡ None ⌝ }
         requires more { ⌜ now self .passed < now self .tree .total ⌝ }
@@ -113,7 +113,7 @@ impl Control {
     }
 
     // Whether a block waits.
-    pub fn waits(&self) -> bool
+    pub(crate) fn waits(&self) -> bool
         ensures next { λ r. ⌜ r ≡ isSome (now (self .entry) .next) ⌝ }
         ensures exactly { λ r. ⌜ Waits-exactly (now (self .entry)) r ⌝ }
     {
@@ -121,7 +121,7 @@ impl Control {
     }
 
     // The chunk coordinates of the block that is next, which is of the group with this mask.
-    pub fn next_at(&self, mask: usize) -> [u32; 6]
+    pub(crate) fn next_at(&self, mask: usize) -> [u32; 6]
         requires controlled { ⌜ Is-controlled (now self) ⌝ }
         requires next { ⌜ now self .next ≡ Some mask ⌝ }
         ensures { λ r. ⌜ Next-at (now (self .entry)) mask r ⌝ }
@@ -130,7 +130,7 @@ impl Control {
     }
 
     // The block that is next, by its mask and its block number.
-    pub fn next_block(&self) -> Option<(usize, u64)>
+    pub(crate) fn next_block(&self) -> Option<(usize, u64)>
         requires { ⌜ Is-controlled (now self) ⌝ }
         ensures { λ r. ⌜ Next-block (now (self .entry)) r ⌝ }
     {
@@ -152,7 +152,7 @@ impl Control {
     }
 
     // The block that is next was handed out.
-    pub fn advance(&mut self)
+    pub(crate) fn advance(&mut self)
         requires controlled { ⌜ Is-controlled (now self) ⌝ }
         requires waits { ⌜ isSome (now self .next) ≡ true ⌝ }
         ensures { λ _. ⌜ Advances (now (self .entry)) (now (self .exit)) ⌝ }
@@ -165,7 +165,7 @@ impl Control {
     }
 
     // Whether all chunks were passed and no block waits.
-    pub fn is_done(&self) -> bool
+    pub(crate) fn is_done(&self) -> bool
         ensures { λ r. ⌜ Done-exactly (now (self .entry)) r ⌝ }
     {
         self.passed == self.tree.total && !self.waits()

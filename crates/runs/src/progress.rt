@@ -18,7 +18,7 @@ pub struct ProgressTable {
 
 impl ProgressTable {
     // Nothing was handed out.
-    pub fn new() -> ProgressTable
+    pub(crate) fn new() -> ProgressTable
         ensures size { λ r. ⌜ length (r .groups) ≡ 64 ⌝ }
         ensures none { λ r. ⌜ ((m : ℕ) → handed-at r m ≡ 0) ⌝ }
     {
@@ -28,7 +28,7 @@ impl ProgressTable {
     }
 
     // How many blocks of a group were handed out.
-    pub fn handed(&self, mask: usize) -> u64
+    pub(crate) fn handed(&self, mask: usize) -> u64
         requires { ⌜ mask < 64 ⌝ }
         ensures { λ r. ⌜ r ≡ handed-at (now (self .entry)) mask ⌝ }
     {
@@ -36,7 +36,7 @@ impl ProgressTable {
     }
 
     // Counts one more block of a group.
-    pub fn count(&mut self, mask: usize)
+    pub(crate) fn count(&mut self, mask: usize)
         requires { ⌜ (mask < 64) × (handed-at (now self) mask + 1 < 2 ^ 64) ⌝ }
         ensures { λ _. ⌜ now (self .exit) .groups ≡ set (now (self .entry) .groups) mask (counted-more (getD (now (self .entry) .groups) mask none-yet)) ⌝ }
     {

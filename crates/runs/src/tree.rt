@@ -32,7 +32,7 @@ pub struct Tree {
 }
 
 // How many groups n dimensions have.
-pub fn group_count(n: usize) -> usize
+pub(crate) fn group_count(n: usize) -> usize
     requires { ⌜ n ≤ 6 ⌝ }
     ensures { λ r. ⌜ (r ≡ 2 ^ n) × (r ≤ 64) × (0 < r) ⌝ }
 {
@@ -95,7 +95,7 @@ fn node_of(n: usize, chunks: [u32; 6], places: [u32; 6], mask: usize, added: usi
 }
 
 // The tree of a shape, for an order and a choice of parents by mask.
-pub fn tree_of(shape: &Shape, places: [u32; 6], adds: [u8; 64]) -> Tree
+pub(crate) fn tree_of(shape: &Shape, places: [u32; 6], adds: [u8; 64]) -> Tree
     requires order { ⌜ Order (dims-of (now shape)) (place-in places) ⌝ }
     requires parents { ⌜ Parents (dims-of (now shape)) (adds-in adds) ⌝ }
     ensures { λ r. ⌜ Grown (dims-of (now (shape .entry))) (place-in places) (adds-in adds) r ⌝ }
@@ -168,7 +168,7 @@ fn product_of(n: usize, radices: [u32; 6]) -> u64
 }
 
 // The number of cells in a block of a group: the product of its kept edges.
-pub fn block_cells(shape: &Shape, mask: usize) -> u32
+pub(crate) fn block_cells(shape: &Shape, mask: usize) -> u32
     ensures { λ r. ⌜ r ≡ product (radix (group (length (dims-of (now (shape .entry)))) mask) (edges (dims-of (now (shape .entry))))) ⌝ }
 {
     let n = shape.dimensions();
@@ -177,7 +177,7 @@ pub fn block_cells(shape: &Shape, mask: usize) -> u32
 
 impl Tree {
     // The chunk coordinates of a group's block by its number in the group's scan order: 0 in each dropped dimension.
-    pub fn coordinates(&self, mask: usize, scan: u64) -> [u32; 6]
+    pub(crate) fn coordinates(&self, mask: usize, scan: u64) -> [u32; 6]
         requires { ⌜ Is-grown (now self) ⌝ }
         ensures { λ r. ⌜ Coordinates-of (now (self .entry)) mask scan r ⌝ }
     {
@@ -186,7 +186,7 @@ impl Tree {
     }
 
     // The number of a group's block with these chunk coordinates, counted by dimension number over the kept dimensions.
-    pub fn block_number(&self, mask: usize, at: [u32; 6]) -> u64
+    pub(crate) fn block_number(&self, mask: usize, at: [u32; 6]) -> u64
         requires { ⌜ Has-block (now self) mask at ⌝ }
         ensures { λ r. ⌜ Number-of (now (self .entry)) mask at r ⌝ }
     {
