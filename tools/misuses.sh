@@ -1,63 +1,86 @@
 #!/usr/bin/env bash
-# Shows that misuses of a run are refused before anything runs: each program below is given to the compiler, which proves nothing here and takes a few seconds.
-# A program in right order must be accepted, and each misuse refused with the error that belongs to it.
+# Shows that misuses of a run are refused before anything runs: the programs below are given to the compiler, which proves nothing here.
+# A program in right order must run, and each misuse must be refused with the error that belongs to it, and nothing else.
 set -eu
 cd "$(dirname "$0")/.."
-kit=$(dirname "$(dirname "$(rt doc)")")
 folder=$(mktemp -d)
 trap 'rm -rf "$folder"' EXIT
-libraries=()
 for crate in shapes measures plans sources cubes runs; do
-    libraries+=(--lib "$crate=crates/$crate/src/lib.rt")
+    grep "^$crate:" crates.txt >>"$folder/crates.txt"
+    mkdir -p "$folder/crates/$crate"
+    cp -r "crates/$crate/src" "crates/$crate/specs" "$folder/crates/$crate"
 done
+echo 'misuse: shapes measures sources runs' >>"$folder/crates.txt"
+mkdir -p "$folder/crates/misuse/src"
 
-# NAME ERROR BODY: the body of a function over cells and a source; ERROR is what the compiler must say, empty where it must accept.
+# NAME BODY: a function over cells and a source.
+scan() {
+    cat <<FUNCTION
+
+fn $1<M: Measure, S: Source<M>>(shape: Shape, cells: &mut [M], source: &mut S) -> Closed {
+$2
+}
+FUNCTION
+}
+
+# FUNCTIONS: the program with them; what the compiler says of it.
 try() {
-    mkdir -p "$folder/$1"
-    cat >"$folder/$1/main.rt" <<PROGRAM
+    cat >"$folder/crates/misuse/src/main.rt" <<PROGRAM
+#![tactic(auto)]
+
 use measures::Measure;
-use runs::Closed;
-use runs::Run;
+use runs::{Closed, Run};
 use shapes::Shape;
 use sources::Source;
-
-fn scan<M: Measure, S: Source<M>>(shape: Shape, cells: &mut [M], source: &mut S) -> Closed {
-$3
+use std::io;
+$1
+fn main(_rt: HostRuntime) -> io::Result<()> {
+    Ok(())
 }
-
-fn main() {}
 PROGRAM
-    status=0
-    "$kit/bin/rattle-print-mir" "$folder/$1/main.rt" --crate-name misuse "${libraries[@]}" \
-        --extern "std=$kit/rlib/std.rlib" -L "dependency=$kit/rlib" >"$folder/$1/out" 2>&1 || status=$?
-    if [ -z "$2" ] && [ "$status" -eq 0 ]; then
-        echo "accepted, as it must be: $1"
-    elif [ -n "$2" ] && [ "$status" -ne 0 ] && grep -q "error\[$2\]" "$folder/$1/out"; then
-        echo "refused, as it must be: $1 ($2)"
-    else
-        echo "WRONG: $1: status $status, wanted '${2:-accepted}'"
-        cut -c1-400 "$folder/$1/out" | head -n 20
-        exit 1
-    fi
+    (cd "$folder/crates/misuse" && rt try 2>&1) || true
 }
 
-try one_after_the_other '' '    let mut run = Run::make(shape, cells);
+said=$(try "$(
+    scan one_after_the_other '    let mut run = Run::make(shape, cells);
     let _ = run.take(source);
     let _ = run.close();
     let again = Run::make(shape, cells);
     again.close()'
+)")
+if ! grep -q '^run=ended status=0' <<<"$said"; then
+    printf 'WRONG: one run after the other is refused\n%s\n' "$said"
+    exit 1
+fi
+echo "accepted, as it must be: one run after the other"
 
-try take_on_a_closed_run borrow-e0382 '    let mut run = Run::make(shape, cells);
+# FUNCTIONS: misuses, which must be refused at each line that says so, with that error, and nowhere else.
+refused() {
+    said=$(try "$1")
+    wanted=$(grep -n '// wanted: ' "$folder/crates/misuse/src/main.rt" | sed -E 's/^([0-9]+):.*wanted: (.*)$/\1 \2/')
+    found=$(sed -nE 's/^src\/main\.rt:([0-9]+):[0-9]+: error\[([a-z0-9-]+)\].*$/\1 \2/p' <<<"$said")
+    if [ "$wanted" != "$found" ]; then
+        printf 'WRONG: wanted these refusals (line, error):\n%s\nand found:\n%s\n' "$wanted" "$said"
+        exit 1
+    fi
+}
+
+refused "$(
+    scan take_on_a_closed_run '    let mut run = Run::make(shape, cells);
     let closed = run.close();
-    let _ = run.take(source);
+    let _ = run.take(source); // wanted: borrow-e0382
     closed'
-
-try second_run_over_the_cells_of_a_live_run borrow-e0499 '    let mut run = Run::make(shape, cells);
-    let again = Run::make(shape, cells);
+    scan second_run_over_the_cells_of_a_live_run '    let mut run = Run::make(shape, cells);
+    let again = Run::make(shape, cells); // wanted: borrow-e0499
     let _ = run.take(source);
     let _ = again.close();
     run.close()'
+)"
+echo "refused, as they must be: a take on a closed run, a second run over the cells of a live run"
 
-try run_that_is_never_closed linear-value-let-go '    let mut run = Run::make(shape, cells);
+refused "$(
+    scan run_that_is_never_closed '    let mut run = Run::make(shape, cells); // wanted: linear-value-let-go
     let _ = run.take(source);
     Closed { taken: 0, skipped: 0, handed: 0 }'
+)"
+echo "refused, as it must be: a run that is never closed"

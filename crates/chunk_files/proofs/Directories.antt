@@ -46,23 +46,23 @@ module _ (bs : List ℕ) (from v t : ℕ) where
   abbrev pub Late : Option Refusal → ℕ → Option Refusal
   Late o at = or_else o (refused_if (not (eqb at (length bs))) (10, []))
 
-  abbrev pub All_found : Option Refusal
-  All_found = entries_fault v 0 (from + 8 * t) (entries_from bs from t)
+  abbrev pub all_found : Option Refusal
+  all_found = entries_fault v 0 (from + 8 * t) (entries_from bs from t)
 
-  abbrev pub All_end : ℕ
-  All_end = ending v (from + 8 * t) (entries_from bs from t)
+  abbrev pub all_end : ℕ
+  all_end = ending v (from + 8 * t) (entries_from bs from t)
 
-  pub directory_long : from + 8 * t ≤ length bs → directory_fault bs from v t ≡ Late All_found All_end
-  directory_long l = ap (λ b. or_else (refused_if b (7, [])) (Late All_found All_end)) (le-ltb (length bs) (from + 8 * t) l)
+  pub directory_long : from + 8 * t ≤ length bs → directory_fault bs from v t ≡ Late all_found all_end
+  directory_long l = ap (λ b. or_else (refused_if b (7, [])) (Late all_found all_end)) (le-ltb (length bs) (from + 8 * t) l)
 
   pub directory_short : length bs < from + 8 * t → directory_fault bs from v t ≡ Some (7, [])
-  directory_short l = ap (λ b. or_else (refused_if b (7, [])) (Late All_found All_end)) (lt-ltb (length bs) (from + 8 * t) l)
+  directory_short l = ap (λ b. or_else (refused_if b (7, [])) (Late all_found all_end)) (lt-ltb (length bs) (from + 8 * t) l)
 
-  pub directory_wrong : from + 8 * t ≤ length bs → (r : Refusal) → All_found ≡ Some r → directory_fault bs from v t ≡ Some r
-  directory_wrong l r e = directory_long l ∙ ap (λ o. Late o All_end) e
+  pub directory_wrong : from + 8 * t ≤ length bs → (r : Refusal) → all_found ≡ Some r → directory_fault bs from v t ≡ Some r
+  directory_wrong l r e = directory_long l ∙ ap (λ o. Late o all_end) e
 
   -- the end of the check's loop
-  module _ (j at : ℕ) (l : t ≤ j) (long : from + 8 * t ≤ length bs) (a : Found j at ≡ All_found) (b : End j at ≡ All_end) where
+  module _ (j at : ℕ) (l : t ≤ j) (long : from + 8 * t ≤ length bs) (a : Found j at ≡ all_found) (b : End j at ≡ all_end) where
     all_right : directory_fault bs from v t ≡ refused_if (not (eqb at (length bs))) (10, [])
     all_right = directory_long long ∙ ((λ i. Late ((sym a ∙ entries_none j at l) i) ((sym b ∙ ending_none j at l) i)))
 

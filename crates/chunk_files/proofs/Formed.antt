@@ -5,7 +5,7 @@ use Rattle.std.proofs.lemmas.Bool.Decides.{nat_tests}
 use Rattle.std.proofs.lemmas.List.{append_assoc, length-append, length-take, length-drop, nil_from_length, take-append-drop, take_at, drop_at}
 use Rattle.std.proofs.lemmas.Bool.{eq-eqb, eqb-true, leb-true, le-leb, le-ltb, and_parts, and_from, false≢true}
 use Rattle.std.proofs.lemmas.List.FromFn.{length-map-range_with_len, get_or-map-range_with_len}
-use Rattle.std.proofs.ByRecursion.{All_from_get_or}
+use Rattle.std.proofs.ByRecursion.{All-from_get_or}
 use Rattle.shapes.specs.declared.dims.Dim.{Dim}
 use Rattle.shapes.specs.Arrays.{volume, total_chunks, none_dim}
 use Rattle.shapes.specs.Limits.{Fit, Limits, Refusal, or_else, refused_if, shape_fault}
@@ -30,8 +30,8 @@ right_from v at e h s =
     let c = and_parts (leb e.count v) (eqb e.spare 0) b.1 in
     record { starts = eqb-true _ _ a.0; kinds = leb-true _ _ b.0; counts = leb-true _ _ c.0; spares = eqb-true _ _ c.1; short = s }
 
-from-right : (v at : ℕ) (e : Entry) → Right v at e → right v at e ≡ true
-from-right v at e r = and_from _ _ (eq-eqb _ _ r.starts) (and_from _ _ (le-leb _ _ r.kinds) (and_from _ _ (le-leb _ _ r.counts) (eq-eqb _ _ r.spares)))
+from_right : (v at : ℕ) (e : Entry) → Right v at e → right v at e ≡ true
+from_right v at e r = and_from _ _ (eq-eqb _ _ r.starts) (and_from _ _ (le-leb _ _ r.kinds) (and_from _ _ (le-leb _ _ r.counts) (eq-eqb _ _ r.spares)))
 
 refused_none : (b : Bool) (r : Refusal) → refused_if (not b) r ≡ None → b ≡ true
 refused_none true r h = refl
@@ -125,7 +125,7 @@ layout_from bs small h =
     let el : length es ≡ t = length-map-range_with_len (λ j. entry_at bs (directory_at ds + 8 * j)) 0 t in
     let no_entry : Entry = record { start = 0; count = 0; kind = 0; spare = 0 } in
     let short : All (λ (e : Entry). e.start < 2 ^ 32) es =
-    All_from_get_or (λ (e : Entry). e.start < 2 ^ 32) es no_entry
+    All-from_get_or (λ (e : Entry). e.start < 2 ^ 32) es no_entry
     (λ j l. subst (λ (e : Entry). e.start < 2 ^ 32) (sym (get_or-map-range_with_len (λ j. entry_at bs (directory_at ds + 8 * j)) 0 t j j no_entry (omega arith) (omega arith))) (word_short bs small (directory_at ds + 8 * j))) in
     let mark : take 4 bs ≡ 1 ∷ length ds ∷ 0 ∷ 0 ∷ [] = take_4 bs 0 p.0 ∙ (λ i. p.1 i ∷ sym nl i ∷ p.2 i ∷ p.3 i ∷ []) in
     let sizes : flat_map dim_bytes ds ≡ take (8 * length ds) (drop 4 bs) =
@@ -144,16 +144,16 @@ layout_from bs small h =
 
 -- What has a layout has no fault
 
-from-laid : (v j at : ℕ) (es : List Entry) (bodies : List (List ℕ)) → Laid v at es bodies → (entries_fault v j at es ≡ None) × (ending v at es ≡ at + length (flat bodies))
-from-laid v j at [] [] l = (refl, omega arith)
-from-laid v j at [] (b ∷ bodies) l = absurd l
-from-laid v j at (e ∷ es) [] l = absurd l
-from-laid v j at (e ∷ es) (b ∷ bodies) l =
-    let ih = from-laid v (j + 1) (at + body_length v e) es bodies l.2 in
+from_laid : (v j at : ℕ) (es : List Entry) (bodies : List (List ℕ)) → Laid v at es bodies → (entries_fault v j at es ≡ None) × (ending v at es ≡ at + length (flat bodies))
+from_laid v j at [] [] l = (refl, omega arith)
+from_laid v j at [] (b ∷ bodies) l = absurd l
+from_laid v j at (e ∷ es) [] l = absurd l
+from_laid v j at (e ∷ es) (b ∷ bodies) l =
+    let ih = from_laid v (j + 1) (at + body_length v e) es bodies l.2 in
     let n = length-append b (flat bodies) in
     let m = l.1 in
     let q = ih.1 in
-    (ap (λ b. or_else (refused_if (not b) (9, j ∷ [])) (entries_fault v (j + 1) (at + body_length v e) es)) (from-right v at e l.0) ∙ ih.0, omega arith)
+    (ap (λ b. or_else (refused_if (not b) (9, j ∷ [])) (entries_fault v (j + 1) (at + body_length v e) es)) (from_right v at e l.0) ∙ ih.0, omega arith)
 
 short_entries : (v at : ℕ) (es : List Entry) (bodies : List (List ℕ)) → v ≤ 16384 → Laid v at es bodies → All ShortEntry es
 short_entries v at [] bodies s l = tt
@@ -227,7 +227,7 @@ module _ (ds : List Dim) (es : List Entry) (bodies : List (List ℕ)) (limits : 
   directory_fine : directory_fault file (directory_at ds) (volume ds) (total_chunks ds) ≡ None
   directory_fine =
       let v = volume ds in
-      let w = from-laid v 0 (bodies_at ds) es bodies laid in
+      let w = from_laid v 0 (bodies_at ds) es bodies laid in
       let f : entries_fault v 0 (bodies_at ds) (entries_from file (directory_at ds) (total_chunks ds)) ≡ None = ap (entries_fault v 0 (bodies_at ds)) entries_there ∙ w.0 in
       let e : ending v (bodies_at ds) (entries_from file (directory_at ds) (total_chunks ds)) ≡ length file = ap (ending v (bodies_at ds)) entries_there ∙ (w.1 ∙ sym length_file) in
       let long = length_file in
@@ -251,8 +251,8 @@ module _ (ds : List Dim) (es : List Entry) (bodies : List (List ℕ)) (limits : 
 
 -- the same of any bytes with a layout
 module _ (bs : List ℕ) (ds : List Dim) (es : List Entry) (bodies : List (List ℕ)) (l : Layout bs ds es bodies) where
-  pub from-layout : file_fault bs ≡ None
-  from-layout = ap file_fault l.made ∙ laid_fine ds es bodies l.limits l.each_entry l.laid
+  pub from_layout : file_fault bs ≡ None
+  from_layout = ap file_fault l.made ∙ laid_fine ds es bodies l.limits l.each_entry l.laid
 
   pub layout_tells : Tells bs ds es bodies
   layout_tells = record {
@@ -270,5 +270,5 @@ layout_found bs small h = ((λ _. (dims_in bs, entries_in bs, bodies_in bs, layo
 pub layout_missed : {S E : Type 0} (r : Result S E) (e : E) (bs : List ℕ) (x : Refusal) → r ≡ Err e → file_fault bs ≡ Some x → Decides (is_ok r) (HasLayout bs)
 layout_missed r e bs x is h = (
   (λ z. absurd (false≢true (ap is_ok (sym is) ∙ z))),
-  (λ l. let n = from-layout bs l.0 l.1 l.2 l.3 in let z : ◌≡◌ {A = ℕ} 0 1 = cc in absurd (omega arith)),
+  (λ l. let n = from_layout bs l.0 l.1 l.2 l.3 in let z : ◌≡◌ {A = ℕ} 0 1 = cc in absurd (omega arith)),
 )

@@ -66,9 +66,9 @@ fn checked_pair(raw: &[u8], k: u16, low: usize, cells: usize) -> Result<(usize, 
 
 // A body of kind 0, into cells that are empty.
 fn read_pairs<M: Measure>(raw: &[u8], count: u16, cells: &mut [M]) -> Result<(), BodyFault>
-    requires fresh { cells.old ≡ replicate (length cells.old) empty }
+    requires fresh { cells.old ≡ replicate (length cells.old) M.empty }
     ensures { MatchResult result
-        (λ _. (sparse_fault (length cells.old) count raw.now ≡ None) × (cells.new ≡ map (cell_value empty lifted) (sparse_cells (length cells.old) count raw.now)))
+        (λ _. (sparse_fault (length cells.old) count raw.now ≡ None) × (cells.new ≡ map (cell_value M.empty M.lifted) (sparse_cells (length cells.old) count raw.now)))
         (λ e. sparse_fault (length cells.old) count raw.now ≡ Some (body_fault e)) }
 {
     let mut low: usize = 0;
@@ -101,7 +101,7 @@ fn checked_word(raw: &[u8], k: usize) -> Result<Option<Reading>, BodyFault>
 }
 
 fn cell_of<M: Measure>(reading: Option<Reading>) -> M
-    ensures { result ≡ lift_or empty lifted reading }
+    ensures { result ≡ lift_or M.empty M.lifted reading }
 {
     match reading {
         Some(r) => M::lift(r),
@@ -120,7 +120,7 @@ fn tally(reading: Option<Reading>) -> u32
 fn read_words<M: Measure>(raw: &[u8], count: u16, cells: &mut [M]) -> Result<(), BodyFault>
     requires small { length cells.old ≤ 16384 }
     ensures { MatchResult result
-        (λ _. (dense_fault (length cells.old) count raw.now ≡ None) × (cells.new ≡ map (cell_value empty lifted) (dense_cells (length cells.old) raw.now)))
+        (λ _. (dense_fault (length cells.old) count raw.now ≡ None) × (cells.new ≡ map (cell_value M.empty M.lifted) (dense_cells (length cells.old) raw.now)))
         (λ e. dense_fault (length cells.old) count raw.now ≡ Some (body_fault e)) }
 {
     let mut full: u32 = 0;
@@ -142,7 +142,7 @@ fn read_words<M: Measure>(raw: &[u8], count: u16, cells: &mut [M]) -> Result<(),
 fn read_body<M: Measure>(raw: &[u8], e: Entry, cells: &mut [M]) -> Result<(), BodyFault>
     requires small { length cells.old ≤ 16384 }
     ensures { MatchResult result
-        (λ _. chunk_value empty lifted (body (length cells.old) e raw.now) ≡ values cells.new)
+        (λ _. chunk_value M.empty M.lifted (body (length cells.old) e raw.now) ≡ values cells.new)
         (λ f. body (length cells.old) e raw.now ≡ Err (body_fault f)) }
 {
     if e.kind == 0 {
@@ -181,8 +181,8 @@ pub(crate) fn read_chunk<M: Measure>(
     cells: &mut [M],
 ) -> Result<(), SourceRefusal>
     requires small { length cells.old ≤ 16384 }
-    ensures answers { result ≡ read_answer number (chunk_value empty lifted (body (length cells.old) e (body_of bytes.now (length cells.old) e))) }
-    ensures fills { cells.new ≡ cells_of empty (length cells.old) (chunk_value empty lifted (body (length cells.old) e (body_of bytes.now (length cells.old) e))) }
+    ensures answers { result ≡ read_answer number (chunk_value M.empty M.lifted (body (length cells.old) e (body_of bytes.now (length cells.old) e))) }
+    ensures fills { cells.new ≡ cells_of M.empty (length cells.old) (chunk_value M.empty M.lifted (body (length cells.old) e (body_of bytes.now (length cells.old) e))) }
 {
     match read_body(body_bytes(bytes, e, cells.len()), e, cells) {
         Ok(()) => Ok(()),

@@ -1,4 +1,6 @@
 // The chunk file: its layout, its opening, and the opened file as a source of chunks.
+#![tactic(auto)]
+
 mod bodies;
 mod bytes;
 mod checks;

@@ -33,7 +33,7 @@ impl<'a> Shaped for ChunkFile<'a> {
 /// The chunks of a file mean what its bytes say: each cell the lift of its reading, or the empty value.
 /// A bad body makes only its own chunk unreadable.
 impl<'a, M: Measure> Source<M> for ChunkFile<'a> {
-    ghost contents = { λ s. file_chunk empty lifted s.bytes.now };
+    ghost contents = { λ s. file_chunk M.empty M.lifted s.bytes.now };
 
     fn fetch(&mut self, number: u64, into: &mut [M]) -> Result<(), SourceRefusal> {
         let shape = self.shape();

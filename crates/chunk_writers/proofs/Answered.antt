@@ -1,21 +1,19 @@
 -- What a write answers and leaves. Assumes nothing.
-use Rattle.std.proofs.Common.{◌≡◌, ℕ, zero, suc, ◌+◌, ◌*◌, ◌<◌, ◌≤◌, Bool, true, false, cond, ltb, ◌⊎◌, List, [], ◌∷◌, ◌++◌, length, get_or, drop, Some, None, Ok, Err, Option, Result, sym, refl, ap, ◌∙◌, subst, inl, inr, arith}
+use Rattle.std.proofs.Common.{◌≡◌, ℕ, zero, suc, ◌+◌, ◌<◌, ◌≤◌, Bool, true, false, cond, List, [], ◌∷◌, ◌++◌, length, drop, Some, None, Ok, Err, Option, sym, refl, ap, ◌∙◌, arith}
 use Rattle.std.specs.List.Sorted.{IsPermutation}
 use Rattle.std.specs.List.{flat_map, AllByRecursion as All}
 use Rattle.std.proofs.lemmas.List.{append_assoc, length-append}
-use Rattle.std.proofs.lemmas.List.FromFn.{length-map-range_with_len}
 use Rattle.std.proofs.lemmas.Bool.Decides.{nat_tests}
 use Rattle.shapes.specs.declared.dims.Dim.{Dim}
 use Rattle.shapes.specs.Arrays.{volume, total_chunks}
 use Rattle.shapes.specs.Limits.{Fit}
 use Rattle.sources.specs.declared.rows.Row.{Row}
-use Rattle.sources.specs.Rows.{in-range, first_outside}
+use Rattle.sources.specs.Rows.{in_range, first_outside}
 use Rattle.chunk_files.specs.Layouts.{header_bytes, entry_bytes, directory_at, bodies_at}
 use Rattle.chunk_writers.specs.declared.keys.Key.{Key}
-use Rattle.chunk_writers.specs.declared.refusals.WriteRefusal.{WriteRefusal}
-use Rattle.chunk_writers.specs.declared.refusals.WriteRefusal.TheVariants.{Twice, Long, Room, Memory, Row as OutOfRange}
+use Rattle.chunk_writers.specs.declared.refusals.WriteRefusal.TheVariants.{Twice}
 use Rattle.chunk_writers.specs.Keys.{row_at, InRange, all_keys, Ordered, Keyed, Repeated}
-use Rattle.chunk_writers.specs.Written.{put, file_bytes, entries_of, bodies_of, in-chunk, in-chunks}
+use Rattle.chunk_writers.specs.Written.{put, file_bytes, entries_of, in_chunks}
 use Rattle.chunk_writers.specs.Answers.{first_twice, room_answer, twice_answer, range_answer, write_answer, rows_checked}
 use Rattle.chunk_writers.proofs.Filed.{length_header, length_directory, length_file, all_bodies}
 use Rattle.chunk_writers.proofs.Putting.{put_then}
@@ -28,14 +26,14 @@ never : {A : Type 0} → false ≡ true → A
 never e = let z : ◌≡◌ {A = ℕ} 0 1 = cc in absurd (omega arith)
 
 -- rows that pass the check are in range
-pub in-range-from : (ds : List Dim) (i : ℕ) (rows : List Row) → first_outside ds i rows ≡ None → InRange ds rows
-in-range-from ds i [] h k l = absurd (omega arith)
-in-range-from ds i (r ∷ rows) h k l = go (in-range ds r) refl k l (λ e. in-range-from ds (i + 1) rows e)
+pub in_range_from : (ds : List Dim) (i : ℕ) (rows : List Row) → first_outside ds i rows ≡ None → InRange ds rows
+in_range_from ds i [] h k l = absurd (omega arith)
+in_range_from ds i (r ∷ rows) h k l = go (in_range ds r) refl k l (λ e. in_range_from ds (i + 1) rows e)
   where
-    skip : in-range ds r ≡ true → first_outside ds (i + 1) rows ≡ None
+    skip : in_range ds r ≡ true → first_outside ds (i + 1) rows ≡ None
     skip e = sym (ap (λ b. cond b (first_outside ds (i + 1) rows) (Some i)) e) ∙ h
 
-    go : (b : Bool) → in-range ds r ≡ b → (k : ℕ) → k < length (r ∷ rows) → (first_outside ds (i + 1) rows ≡ None → InRange ds rows) → in-range ds (row_at (r ∷ rows) k) ≡ true
+    go : (b : Bool) → in_range ds r ≡ b → (k : ℕ) → k < length (r ∷ rows) → (first_outside ds (i + 1) rows ≡ None → InRange ds rows) → in_range ds (row_at (r ∷ rows) k) ≡ true
     go true e zero l ih = e
     go true e (suc k) l ih = ih (skip e) k (omega arith)
     go false e k l ih =
@@ -51,7 +49,7 @@ module _ (ds : List Dim) (rows : List Row) where
   rows_passed h = checked_none (first_outside ds 0 rows) h
 
   pub rows_in_range : Ok tt ≡ rows_checked (first_outside ds 0 rows) → InRange ds rows
-  rows_in_range h = in-range-from ds 0 rows (rows_passed h)
+  rows_in_range h = in_range_from ds 0 rows (rows_passed h)
 
 -- the parts of a file, one after another
 pub put_file : (ds : List Dim) (css : List (List (Option ℕ))) (b₀ b₁ b₂ b₃ : List ℕ) → length css ≡ total_chunks ds → length (file_bytes ds css) ≤ length b₀
@@ -75,15 +73,15 @@ put_file ds css b₀ b₁ b₂ b₃ e l p q r =
 -- rows in range, and their keys in order
 module _ (ds : List Dim) (fit : All Fit ds) (rows : List Row) (ks : List Key) (none : first_outside ds 0 rows ≡ None) (sorted : IsPermutation (all_keys ds rows) ks × Ordered ks) (room : ℕ) where
   ranged : InRange ds rows
-  ranged = in-range-from ds 0 rows none
+  ranged = in_range_from ds 0 rows none
 
-  begins : (o : Option ℕ) → first_twice ds 0 [] rows ≡ o → write_answer ds rows room ≡ twice_answer o (room_answer (length (file_bytes ds (in-chunks ds rows))) room)
-  begins o e = λ i. range_answer (none i) (twice_answer (e i) (room_answer (length (file_bytes ds (in-chunks ds rows))) room))
+  begins : (o : Option ℕ) → first_twice ds 0 [] rows ≡ o → write_answer ds rows room ≡ twice_answer o (room_answer (length (file_bytes ds (in_chunks ds rows))) room)
+  begins o e = λ i. range_answer (none i) (twice_answer (e i) (room_answer (length (file_bytes ds (in_chunks ds rows))) room))
 
   pub refused_twice : (m : ℕ) → m < length ks → Repeated ks (length ks) m → write_answer ds rows room ≡ Err (Twice m)
   refused_twice m l R = begins (Some m) (one_twice ds fit rows ks ranged sorted.0 sorted.1 m R l)
 
-  pub none_twice : Repeated ks (length ks) (length ks) → write_answer ds rows room ≡ room_answer (length (file_bytes ds (in-chunks ds rows))) room
+  pub none_twice : Repeated ks (length ks) (length ks) → write_answer ds rows room ≡ room_answer (length (file_bytes ds (in_chunks ds rows))) room
   none_twice R = begins None (no_twice ds fit rows ks ranged sorted.0 sorted.1 (length ks) R refl)
 
   pub sound : Repeated ks (length ks) (length ks) → Keyed ds rows ks

@@ -1,22 +1,22 @@
 -- The keys of a chunk, and its cells. Assumes nothing.
-use Rattle.std.proofs.Common.{◌≡◌, ℕ, zero, suc, ◌+◌, ◌-◌, ◌*◌, ◌/◌, ◌<◌, ◌≤◌, Bool, true, false, cond, ◌&&◌, eqb, ltb, ◌≢◌, ◌⊎◌, List, [], ◌∷◌, map, length, get_or, take, drop, Some, None, Option, sym, refl, ap, ◌∙◌, subst, inl, inr, mod-lt, div-lt_iff_lt-mul, div-add-mod', arith}
+use Rattle.std.proofs.Common.{◌≡◌, ℕ, ◌+◌, ◌-◌, ◌/◌, ◌<◌, ◌≤◌, true, false, cond, ◌&&◌, eqb, ltb, ◌⊎◌, List, [], ◌∷◌, map, length, get_or, Some, None, sym, ap, ◌∙◌, subst, inl, inr, mod-lt, div-lt_iff_lt-mul, div-add-mod', arith}
 use Rattle.std.specs.List.{range_with_len, flat_map, between, AllByRecursion as All}
 use Rattle.std.proofs.lemmas.List.Edits.{length-between, get_or-between}
 use Rattle.std.proofs.lemmas.List.{length-map, get_or-map}
-use Rattle.std.proofs.lemmas.Bool.{and_parts, and_from, ltb-true, eq-eqb, eqb-true, cond-true, cond-false, cases_lt, cases_eq}
+use Rattle.std.proofs.lemmas.Bool.{and_parts, and_from, ltb-true, eq-eqb, eqb-true, cases_lt}
 use Rattle.shapes.specs.declared.dims.Dim.{Dim}
 use Rattle.shapes.specs.Arrays.{chunks, sizes, counts, edges, inside, Below as Digits, chunk_of, local_of, storage, offset, volume, total_chunks}
 use Rattle.shapes.specs.Limits.{Fit}
 use Rattle.shapes.proofs.Numbering.{number_below}
 use Rattle.sources.specs.declared.rows.Row.{Row}
 use Rattle.sources.specs.Readings.{is_reading}
-use Rattle.sources.specs.Rows.{in-range, on_cell}
+use Rattle.sources.specs.Rows.{in_range, on_cell}
 use Rattle.chunk_files.specs.Bodies.{Pair, held, filled, pair_bytes, cell_bytes}
 use Rattle.chunk_writers.specs.declared.keys.Key.{Key}
 use Rattle.chunk_writers.specs.Keys.{none_key, row_at, key_of, pair_of, Keyed, Cut, Below}
 use Rattle.chunk_writers.specs.Segments.{Climb}
-use Rattle.chunk_writers.specs.Written.{pairs_of, in_cell, in-chunk, dense, body_bytes}
-use Rattle.chunk_writers.proofs.Pairing.{held_cases, first_cases, climb-from, pairs_held, length_pairs_of, map_counting_same}
+use Rattle.chunk_writers.specs.Written.{pairs_of, in_cell, in_chunk, dense, body_bytes}
+use Rattle.chunk_writers.proofs.Pairing.{held_cases, first_cases, climb_from, pairs_held, length_pairs_of, map_counting_same}
 
 never : {A : Type 0} → false ≡ true → A
 never e = let z : ◌≡◌ {A = ℕ} 0 1 = cc in absurd (omega arith)
@@ -42,7 +42,7 @@ locals_below (d ∷ ds) (x ∷ xs) fit h =
     (mod-lt x fit.0.2, locals_below ds xs fit.1 b.1)
 
 -- a row in range lies in a chunk of the array, at an offset of the chunk
-module _ (ds : List Dim) (fit : All Fit ds) (r : Row) (good : in-range ds r ≡ true) where
+module _ (ds : List Dim) (fit : All Fit ds) (r : Row) (good : in_range ds r ≡ true) where
   pub storage_below : storage ds r.at < total_chunks ds
   storage_below = number_below (counts ds) (chunk_of ds r.at) (chunks_below ds r.at fit (and_parts (inside (sizes ds) r.at) (is_reading r.reading) good).0)
 
@@ -50,11 +50,11 @@ module _ (ds : List Dim) (fit : All Fit ds) (r : Row) (good : in-range ds r ≡ 
   offset_below = number_below (edges ds) (local_of ds r.at) (locals_below ds r.at fit (and_parts (inside (sizes ds) r.at) (is_reading r.reading) good).0)
 
   pub on_own_cell : (k o : ℕ) → storage ds r.at ≡ k → offset ds r.at ≡ o → on_cell ds k o r ≡ true
-  on_own_cell k o a b = and_from (in-range ds r) (eqb (storage ds r.at) k && eqb (offset ds r.at) o) good (and_from (eqb (storage ds r.at) k) (eqb (offset ds r.at) o) (eq-eqb (storage ds r.at) k a) (eq-eqb (offset ds r.at) o b))
+  on_own_cell k o a b = and_from (in_range ds r) (eqb (storage ds r.at) k && eqb (offset ds r.at) o) good (and_from (eqb (storage ds r.at) k) (eqb (offset ds r.at) o) (eq-eqb (storage ds r.at) k a) (eq-eqb (offset ds r.at) o b))
 
 pub cell_of_row : (ds : List Dim) (k o : ℕ) (r : Row) → on_cell ds k o r ≡ true → (storage ds r.at ≡ k) × (offset ds r.at ≡ o)
 cell_of_row ds k o r h =
-    let a = and_parts (in-range ds r) (eqb (storage ds r.at) k && eqb (offset ds r.at) o) h in
+    let a = and_parts (in_range ds r) (eqb (storage ds r.at) k && eqb (offset ds r.at) o) h in
     let b = and_parts (eqb (storage ds r.at) k) (eqb (offset ds r.at) o) a.1 in
     (eqb-true (storage ds r.at) k b.0, eqb-true (offset ds r.at) o b.1)
 
@@ -104,22 +104,22 @@ module _ (ds : List Dim) (fit : All Fit ds) (rows : List Row) (ks : List Key) (K
     at_segment : (p : ℕ) (d : Key) → p < length segment → get_or segment p d ≡ get_or ks (k + p) d
     at_segment p d l = let n = length_segment in get_or-between ks k e p d (omega arith)
 
-    in-segment : (p : ℕ) (d : Key) → k ≤ p → p < e → (get_or ks p d).chunk ≡ j
-    in-segment p d l m = let w = B.within in let a = A.after p d l (omega arith) in let b = B.before p d m in omega arith
+    in_segment : (p : ℕ) (d : Key) → k ≤ p → p < e → (get_or ks p d).chunk ≡ j
+    in_segment p d l m = let w = B.within in let a = A.after p d l (omega arith) in let b = B.before p d m in omega arith
 
     segment_rises : (p q : ℕ) (d : Key) → p < q → q < length segment → (get_or segment p d).offset < (get_or segment q d).offset
     segment_rises p q d l m =
         let n = length_segment in
         let w = B.within in
-        let a = in-segment (k + p) d (omega arith) (omega arith) in
-        let b = in-segment (k + q) d (omega arith) (omega arith) in
+        let a = in_segment (k + p) d (omega arith) (omega arith) in
+        let b = in_segment (k + q) d (omega arith) (omega arith) in
         let lower : (get_or ks (k + p) d).offset < (get_or ks (k + q) d).offset = elim (K.rises (k + p) (k + q) d (omega arith) (omega arith)) [ inl h ↦ absurd (omega arith) | inr h ↦ h.1 ] in
         let x = ap (λ (y : Key). y.offset) (at_segment p d (omega arith)) in
         let z = ap (λ (y : Key). y.offset) (at_segment q d m) in
         omega arith
 
     pub segment_climbs : Climb 0 (volume ds) (map (pair_of rows) segment)
-    segment_climbs = climb-from rows segment 0 (volume ds)
+    segment_climbs = climb_from rows segment 0 (volume ds)
         (λ p d l. let n = length_segment in let w = B.within in let x = ap (λ (y : Key). y.offset) (at_segment p d l) in let b = (key_below (k + p) d (omega arith)).1 in (omega arith, omega arith))
         segment_rises
 
@@ -151,11 +151,11 @@ module _ (ds : List Dim) (fit : All Fit ds) (rows : List Row) (ks : List Key) (K
         let w = B.within in
         let q = get_or ks (k + p) none_key in
         let there : k + p < length ks = omega arith in
-        let chunk = in-segment (k + p) none_key (omega arith) (omega arith) in
+        let chunk = in_segment (k + p) none_key (omega arith) (omega arith) in
         on_own_cell ds fit (row_at rows q.row) (K.ranged q.row (K.each (k + p) none_key there).0) j x (sym (key_chunk (k + p) none_key there) ∙ chunk) (sym (key_offset (k + p) none_key there) ∙ o)
 
-    pub in-cell-held : (x : ℕ) → in_cell ds rows j x ≡ held (map (pair_of rows) segment) x
-    in-cell-held x = elim (held_cases (map (pair_of rows) segment) x) [
+    pub in_cell_held : (x : ℕ) → in_cell ds rows j x ≡ held (map (pair_of rows) segment) x
+    in_cell_held x = elim (held_cases (map (pair_of rows) segment) x) [
       | inl h ↦ filled_by h.0 (let l = h.1 in let m = length-map segment (pair_of rows) in omega arith) (h.2 none_pair).0 (h.2 none_pair).1 (first_cases (on_cell ds j x) rows)
       | inr h ↦ filled_not h.0 h.1 (first_cases (on_cell ds j x) rows)
     ]
@@ -172,7 +172,7 @@ module _ (ds : List Dim) (fit : All Fit ds) (rows : List Row) (ks : List Key) (K
             let g = row_place f.0 x f.1 f.2 in
             let at_p = pair_at_place p l in
             let o' : (get_or ks (k + p) none_key).offset ≡ x = sym (ap (λ (y : Pair). y.offset) at_p) ∙ o in
-            let chunk = in-segment (k + p) none_key (omega arith) (omega arith) ∙ sym (in-segment (k + g.0) none_key (omega arith) (let m = g.1 in omega arith)) in
+            let chunk = in_segment (k + p) none_key (omega arith) (omega arith) ∙ sym (in_segment (k + g.0) none_key (omega arith) (let m = g.1 in omega arith)) in
             let same : k + p ≡ k + g.0 = one_place (k + p) (k + g.0) (omega arith) (let m = g.1 in omega arith) chunk (o' ∙ sym g.3) in
             let row : get_or ks (k + p) none_key ≡ key_of ds rows f.0 = ap (λ z. get_or ks z none_key) same ∙ g.2 in
             f.3 ∙ sym (is ∙ ap (λ (y : Pair). Some y.reading) at_p ∙ ap (λ (y : Key). Some (row_at rows y.row).reading) row)
@@ -193,17 +193,17 @@ module _ (ds : List Dim) (fit : All Fit ds) (rows : List Row) (ks : List Key) (K
             absurd (none g.0 none_pair (omega arith) (ap (λ (y : Pair). y.offset) (pair_at_place g.0 l) ∙ g.3))
         filled_not is none (inr f) = f.0 ∙ sym is
 
-    pub chunk_cells : in-chunk ds rows j ≡ map (held (map (pair_of rows) segment)) (range_with_len 0 (volume ds))
-    chunk_cells = map_counting_same (in_cell ds rows j) (held (map (pair_of rows) segment)) 0 (volume ds) (λ x l m. in-cell-held x)
+    pub chunk_cells : in_chunk ds rows j ≡ map (held (map (pair_of rows) segment)) (range_with_len 0 (volume ds))
+    chunk_cells = map_counting_same (in_cell ds rows j) (held (map (pair_of rows) segment)) 0 (volume ds) (λ x l m. in_cell_held x)
 
-    pub chunk_pairs : pairs_of 0 (in-chunk ds rows j) ≡ map (pair_of rows) segment
+    pub chunk_pairs : pairs_of 0 (in_chunk ds rows j) ≡ map (pair_of rows) segment
     chunk_pairs =
         let high : volume ds ≡ 0 + volume ds = omega arith in
         ap (pairs_of 0) chunk_cells ∙ pairs_held (volume ds) 0 (map (pair_of rows) segment) (subst (λ h. Climb 0 h (map (pair_of rows) segment)) high segment_climbs)
 
-    pub chunk_filled : filled (in-chunk ds rows j) ≡ e - k
-    chunk_filled = sym (length_pairs_of 0 (in-chunk ds rows j)) ∙ ap length chunk_pairs ∙ length-map segment (pair_of rows) ∙ length_segment
+    pub chunk_filled : filled (in_chunk ds rows j) ≡ e - k
+    chunk_filled = sym (length_pairs_of 0 (in_chunk ds rows j)) ∙ ap length chunk_pairs ∙ length-map segment (pair_of rows) ∙ length_segment
 
     -- the body of the chunk
-    pub chunk_body : body_bytes (volume ds) (in-chunk ds rows j) ≡ cond (dense (volume ds) (e - k)) (flat_map cell_bytes (map (held (map (pair_of rows) segment)) (range_with_len 0 (volume ds)))) (flat_map pair_bytes (map (pair_of rows) segment))
+    pub chunk_body : body_bytes (volume ds) (in_chunk ds rows j) ≡ cond (dense (volume ds) (e - k)) (flat_map cell_bytes (map (held (map (pair_of rows) segment)) (range_with_len 0 (volume ds)))) (flat_map pair_bytes (map (pair_of rows) segment))
     chunk_body = λ i. cond (dense (volume ds) (chunk_filled i)) (flat_map cell_bytes (chunk_cells i)) (flat_map pair_bytes (chunk_pairs i))

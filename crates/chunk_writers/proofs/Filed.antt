@@ -1,23 +1,22 @@
 -- The directory and the bodies, chunk by chunk. Assumes nothing.
-use Rattle.std.proofs.Common.{◌≡◌, ℕ, zero, suc, ◌+◌, ◌-◌, ◌*◌, ◌^◌, ◌<◌, ◌≤◌, Bool, true, false, cond, ltb, ◌⊎◌, List, [], ◌∷◌, ◌++◌, map, length, get_or, take, drop, is_some, Option, sym, refl, ap, ◌∙◌, subst, inl, inr, arith}
+use Rattle.std.proofs.Common.{◌≡◌, ℕ, zero, suc, ◌+◌, ◌-◌, ◌*◌, ◌<◌, ◌≤◌, Bool, true, false, cond, ltb, ◌⊎◌, List, [], ◌∷◌, ◌++◌, map, length, get_or, drop, is_some, Option, sym, refl, ap, ◌∙◌, subst, inl, inr, arith}
 use Rattle.std.specs.List.{range_with_len, flat_map, between, AllByRecursion as All}
 use Rattle.std.proofs.lemmas.List.FromFn.{length-map-range_with_len, get_or-map-range_with_len}
 use Rattle.std.proofs.lemmas.List.Edits.{get_or-between}
-use Rattle.std.proofs.lemmas.List.{length-append, length-map, drop_more, drop_all, append_assoc, get_or_default}
+use Rattle.std.proofs.lemmas.List.{length-append, length-map, drop_more, drop_all, get_or_default}
 use Rattle.std.proofs.lemmas.List.Sums.{count_by-le-length}
 use Rattle.std.proofs.lemmas.Bool.{cond-false, le-ltb, cases_lt}
 use Rattle.shapes.specs.declared.dims.Dim.{Dim}
 use Rattle.shapes.specs.Arrays.{volume, total_chunks}
-use Rattle.shapes.specs.Limits.{Fit, Limits}
+use Rattle.shapes.specs.Limits.{Fit}
 use Rattle.sources.specs.declared.rows.Row.{Row}
-use Rattle.chunk_files.specs.declared.entry.Entry.{Entry}
-use Rattle.chunk_files.specs.Layouts.{le4, dim_bytes, header_bytes, entry_bytes, directory_at, bodies_at, file_of}
-use Rattle.chunk_files.specs.Bodies.{Pair, pair_bytes, cell_bytes, filled, held}
+use Rattle.chunk_files.specs.Layouts.{dim_bytes, header_bytes, entry_bytes, directory_at, bodies_at}
+use Rattle.chunk_files.specs.Bodies.{Pair, pair_bytes, cell_bytes, held}
 use Rattle.chunk_writers.specs.declared.keys.Key.{Key}
-use Rattle.chunk_writers.specs.Keys.{none_key, pair_of, Keyed, Cut, Rising, Below}
+use Rattle.chunk_writers.specs.Keys.{none_key, pair_of, Keyed, Cut, Rising}
 use Rattle.chunk_writers.specs.Segments.{Kept}
-use Rattle.chunk_writers.specs.Written.{dense, body_bytes, body_size, made_entry, entries_of, bodies_of, file_bytes, in_cell, in-chunk, in-chunks}
-use Rattle.chunk_writers.proofs.Chunked.{key_below, cuts_rise, segment, length_segment, chunk_filled, chunk_body}
+use Rattle.chunk_writers.specs.Written.{dense, body_bytes, body_size, made_entry, entries_of, bodies_of, file_bytes, in_cell, in_chunk, in_chunks}
+use Rattle.chunk_writers.proofs.Chunked.{key_below, length_segment, chunk_filled, chunk_body}
 
 pub length_joined : {X : Type 0} (f : X → List ℕ) (w : ℕ) → ((x : X) → length (f x) ≡ w) → (xs : List X) → length (flat_map f xs) ≡ w * length xs
 length_joined f w wide [] = omega arith
@@ -48,7 +47,7 @@ length_file ds css e =
 
 -- the bodies of rows from chunk j on
 abbrev pub left_from : List Dim → List Row → ℕ → List ℕ
-left_from ds rows j = all_bodies (volume ds) (drop j (in-chunks ds rows))
+left_from ds rows j = all_bodies (volume ds) (drop j (in_chunks ds rows))
 
 size_none : (v : ℕ) → body_size v 0 ≡ 0
 size_none v = cond-false (ltb (v * 2) 0) (4 * v) 0 (le-ltb (v * 2) 0 (omega arith))
@@ -72,16 +71,16 @@ cut_ends ks j k e up A l w inside out = record {
 
 module _ (ds : List Dim) (fit : All Fit ds) (small : volume ds ≤ 16384) (rows : List Row) (ks : List Key) (K : Keyed ds rows ks) where
   abbrev css : List (List (Option ℕ))
-  css = in-chunks ds rows
+  css = in_chunks ds rows
 
   -- the bodies from chunk j on
   abbrev pub left : ℕ → List ℕ
   left j = left_from ds rows j
 
   length_css : length css ≡ total_chunks ds
-  length_css = length-map-range_with_len (in-chunk ds rows) 0 (total_chunks ds)
+  length_css = length-map-range_with_len (in_chunk ds rows) 0 (total_chunks ds)
 
-  pub size_file : length (file_bytes ds (in-chunks ds rows)) ≡ bodies_at ds + length (left 0)
+  pub size_file : length (file_bytes ds (in_chunks ds rows)) ≡ bodies_at ds + length (left 0)
   size_file = length_file ds css length_css
 
   pub rising : Rising ks
@@ -93,25 +92,25 @@ module _ (ds : List Dim) (fit : All Fit ds) (small : volume ds ≤ 16384) (rows 
   last_cut : Cut ks (total_chunks ds) (length ks)
   last_cut = record { within = omega arith; before = λ p d l. (key_below ds fit rows ks K p d l).0; after = λ p d l m. absurd (omega arith) }
 
-  css_more : (j : ℕ) → j < total_chunks ds → drop j css ≡ in-chunk ds rows j ∷ drop (j + 1) css
+  css_more : (j : ℕ) → j < total_chunks ds → drop j css ≡ in_chunk ds rows j ∷ drop (j + 1) css
   css_more j l =
       let n = length_css in
-      drop_more css j [] (omega arith) ∙ ap (λ (cs : List (Option ℕ)). cs ∷ drop (j + 1) css) (get_or-map-range_with_len (in-chunk ds rows) 0 (total_chunks ds) j j [] l (omega arith))
+      drop_more css j [] (omega arith) ∙ ap (λ (cs : List (Option ℕ)). cs ∷ drop (j + 1) css) (get_or-map-range_with_len (in_chunk ds rows) 0 (total_chunks ds) j j [] l (omega arith))
 
-  pub no_more : (j : ℕ) → total_chunks ds ≤ j → drop j (in-chunks ds rows) ≡ []
+  pub no_more : (j : ℕ) → total_chunks ds ≤ j → drop j (in_chunks ds rows) ≡ []
   no_more j l = let n = length_css in drop_all j css (omega arith)
 
   pub left_all : left (total_chunks ds) ≡ []
   left_all = let n = length_css in ap (all_bodies (volume ds)) (drop_all (total_chunks ds) css (omega arith))
 
   module _ (j k e : ℕ) (l : j < total_chunks ds) (A : Cut ks j k) (B : Cut ks (j + 1) e) where
-    length_chunk : length (in-chunk ds rows j) ≡ volume ds
+    length_chunk : length (in_chunk ds rows j) ≡ volume ds
     length_chunk = length-map-range_with_len (in_cell ds rows j) 0 (volume ds)
 
     pub few_keys : e - k ≤ volume ds
     few_keys =
         let a = chunk_filled ds fit rows ks K j k e A B in
-        let b = count_by-le-length is_some (in-chunk ds rows j) in
+        let b = count_by-le-length is_some (in_chunk ds rows j) in
         let d = length_chunk in
         omega arith
 
@@ -127,7 +126,7 @@ module _ (ds : List Dim) (fit : All Fit ds) (small : volume ds ≤ 16384) (rows 
         let b = (key_below ds fit rows ks K (k + p) d there).1 in
         (omega arith, omega arith)
 
-    body_length_is : length (body_bytes (volume ds) (in-chunk ds rows j)) ≡ body_size (volume ds) (e - k)
+    body_length_is : length (body_bytes (volume ds) (in_chunk ds rows j)) ≡ body_size (volume ds) (e - k)
     body_length_is = ap length (chunk_body ds fit rows ks K j k e A B) ∙ go (dense (volume ds) (e - k))
       where
         P : List Pair
@@ -147,12 +146,12 @@ module _ (ds : List Dim) (fit : All Fit ds) (small : volume ds ≤ 16384) (rows 
     left_more = ap (all_bodies (volume ds)) (css_more j l) ∙ ap (λ (b : List ℕ). b ++ left (j + 1)) (chunk_body ds fit rows ks K j k e A B)
 
     pub left_length : length (left j) ≡ body_size (volume ds) (e - k) + length (left (j + 1))
-    left_length = ap (λ (cs : List (List (Option ℕ))). length (all_bodies (volume ds) cs)) (css_more j l) ∙ length-append (body_bytes (volume ds) (in-chunk ds rows j)) (left (j + 1)) ∙ ap (λ n. n + length (left (j + 1))) body_length_is
+    left_length = ap (λ (cs : List (List (Option ℕ))). length (all_bodies (volume ds) cs)) (css_more j l) ∙ length-append (body_bytes (volume ds) (in_chunk ds rows j)) (left (j + 1)) ∙ ap (λ n. n + length (left (j + 1))) body_length_is
 
-    pub entries_more : (at : ℕ) → entries_of (volume ds) at (drop j (in-chunks ds rows)) ≡ made_entry (volume ds) at (e - k) ∷ entries_of (volume ds) (at + body_size (volume ds) (e - k)) (drop (j + 1) (in-chunks ds rows))
+    pub entries_more : (at : ℕ) → entries_of (volume ds) at (drop j (in_chunks ds rows)) ≡ made_entry (volume ds) at (e - k) ∷ entries_of (volume ds) (at + body_size (volume ds) (e - k)) (drop (j + 1) (in_chunks ds rows))
     entries_more at =
         ap (entries_of (volume ds) at) (css_more j l)
-        ∙ (λ i. made_entry (volume ds) at (chunk_filled ds fit rows ks K j k e A B i) ∷ entries_of (volume ds) (at + body_length_is i) (drop (j + 1) (in-chunks ds rows)))
+        ∙ (λ i. made_entry (volume ds) at (chunk_filled ds fit rows ks K j k e A B i) ∷ entries_of (volume ds) (at + body_length_is i) (drop (j + 1) (in_chunks ds rows)))
 
   -- chunks that have no key have no body
   skip : (m c k : ℕ) → c + m ≤ total_chunks ds → Cut ks c k → Cut ks (c + m) k → length (left c) ≡ length (left (c + m))

@@ -1,21 +1,19 @@
 -- A written file means what its rows mean. Assumes nothing.
-use Rattle.std.proofs.Common.{◌≡◌, ℕ, zero, suc, ◌+◌, ◌<◌, ◌≤◌, Bool, true, false, cond, ◌⊎◌, List, [], ◌∷◌, ◌++◌, map, length, is_some, Some, None, Ok, filter, Option, sym, refl, ap, ◌∙◌, subst, inl, inr, arith}
+use Rattle.std.proofs.Common.{◌≡◌, ℕ, ◌+◌, ◌<◌, ◌≤◌, Bool, true, false, cond, List, [], ◌∷◌, ◌++◌, map, length, is_some, Some, None, filter, Option, sym, refl, ap, ◌∙◌, subst, arith}
 use Rattle.std.specs.List.{range_with_len}
 use Rattle.std.proofs.lemmas.List.Elements.{filter-append}
 use Rattle.std.proofs.lemmas.List.{append_assoc, append-nil, length-append}
-use Rattle.std.proofs.lemmas.Bool.{cond-true, cond-false}
 use Rattle.shapes.specs.declared.dims.Dim.{Dim}
 use Rattle.shapes.specs.declared.readings.Reading.{Reading}
 use Rattle.shapes.specs.Arrays.{storage, offset, volume, total_chunks}
 use Rattle.shapes.specs.Limits.{Limits}
 use Rattle.measures.specs.Laws.{Lawful, total}
 use Rattle.sources.specs.declared.rows.Row.{Row}
-use Rattle.sources.specs.Meanings.{Chunk, values, Alike}
+use Rattle.sources.specs.Meanings.{values, Alike}
 use Rattle.sources.specs.Readings.{reading_of, lifts, lift_before}
-use Rattle.sources.specs.Rows.{on_cell, cell_readings, row_value, row_chunks}
+use Rattle.sources.specs.Rows.{on_cell, row_value, row_chunks}
 use Rattle.chunk_files.specs.Contents.{lift_or, cell_value, chunk_value, file_chunk}
-use Rattle.chunk_files.specs.Layouts.{file_dims}
-use Rattle.chunk_writers.specs.Written.{first_of, in_cell, in-chunk, in-chunks, file_bytes}
+use Rattle.chunk_writers.specs.Written.{first_of, in_cell}
 use Rattle.chunk_writers.specs.Answers.{first_twice}
 use Rattle.chunk_writers.specs.Trips.{ReadBack, WrittenOf, file_meaning, rows_meaning}
 use Rattle.chunk_writers.proofs.Chunked.{cell_of_row}

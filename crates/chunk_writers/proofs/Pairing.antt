@@ -1,5 +1,5 @@
 -- Pairs by rising offset, and the cells that they fill. Assumes nothing.
-use Rattle.std.proofs.Common.{◌≡◌, ℕ, zero, suc, ◌+◌, ◌-◌, ◌<◌, ◌≤◌, Bool, true, false, cond, eqb, ◌≢◌, ◌⊎◌, List, [], ◌∷◌, map, length, get_or, is_some, Some, None, filter, Option, sym, refl, ap, ◌∙◌, subst, inl, inr, arith}
+use Rattle.std.proofs.Common.{◌≡◌, ℕ, zero, suc, ◌+◌, ◌<◌, ◌≤◌, Bool, true, false, cond, eqb, ◌≢◌, ◌⊎◌, List, [], ◌∷◌, map, length, get_or, is_some, Some, None, filter, Option, sym, refl, ap, ◌∙◌, subst, inl, inr, arith}
 use Rattle.std.specs.List.{range_with_len}
 use Rattle.std.proofs.lemmas.List.Sums.{sum_by-cons}
 use Rattle.std.proofs.lemmas.Bool.{eq-eqb, ne_eqb, cond-true, cond-false, cases_eq}
@@ -99,16 +99,16 @@ first_cases test (r ∷ rows) = go (test r) refl (first_cases test rows)
         ]
 
 -- keys of rising offset have pairs of rising offset
-pub climb-from : (rows : List Row) (ks : List Key) (low high : ℕ)
+pub climb_from : (rows : List Row) (ks : List Key) (low high : ℕ)
     → ((p : ℕ) (d : Key) → p < length ks → (low ≤ (get_or ks p d).offset) × ((get_or ks p d).offset < high))
     → ((p q : ℕ) (d : Key) → p < q → q < length ks → (get_or ks p d).offset < (get_or ks q d).offset)
     → Climb low high (map (pair_of rows) ks)
-climb-from rows [] low high b r = tt
-climb-from rows (k ∷ ks) low high b r =
+climb_from rows [] low high b r = tt
+climb_from rows (k ∷ ks) low high b r =
     let here = b 0 k (omega arith) in (
       here.0,
       here.1,
-      climb-from rows ks (k.offset + 1) high
+      climb_from rows ks (k.offset + 1) high
           (λ p d l. let above : k.offset < (get_or ks p d).offset = r 0 (suc p) d (omega arith) (omega arith) in (omega arith, (b (suc p) d (omega arith)).1))
           (λ p q d l m. r (suc p) (suc q) d (omega arith) (omega arith)),
     )

@@ -1,19 +1,14 @@
 -- Sorted keys. Assumes nothing.
-use Rattle.std.proofs.Common.{◌≡◌, ℕ, zero, suc, ◌+◌, ◌-◌, ◌<◌, ◌≤◌, Bool, true, false, cond, ◌⊎◌, List, [], ◌∷◌, length, get_or, sym, refl, ap, ◌∙◌, subst, inl, inr, arith}
-use Rattle.std.specs.Cmp.{IsTotalOrder, nat_cmp_total}
-use Rattle.std.specs.Cmp.Derive.{on, fields}
-use Rattle.std.specs.Ordering.{is_lt}
+use Rattle.std.proofs.Common.{◌≡◌, ℕ, zero, suc, ◌+◌, ◌-◌, ◌<◌, ◌≤◌, Bool, false, ◌⊎◌, List, length, get_or, refl, subst, inr, arith}
+use Rattle.std.specs.Ordering.{is_lt, nat_cmp, ordering_then}
 use Rattle.std.specs.List.Sorted.{IsSortedWithin}
 use Rattle.std.proofs.lemmas.Bool.Decides.{nat_tests}
 use Rattle.chunk_writers.specs.declared.keys.Key.{Key}
 use Rattle.chunk_writers.specs.Keys.{Below, Together, Ordered}
 
-abbrev pub parts : Key → ℕ × (ℕ × ℕ)
-parts k = (k.chunk, (k.offset, k.row))
-
 -- what a sort says of neighbours
 abbrev pub less : Key → Key → Bool
-less a b = is_lt ((on parts (fields nat_cmp_total (fields nat_cmp_total nat_cmp_total))).cmp a b)
+less a b = is_lt (ordering_then (nat_cmp a.chunk b.chunk) (ordering_then (nat_cmp a.offset b.offset) (nat_cmp a.row b.row)))
 
 abbrev pub Upto : Key → Key → Type 0
 Upto a b = Below a b ⊎ (Together a b × (a.row ≤ b.row))

@@ -1,18 +1,17 @@
 -- The lemmas of files, at a table. Assumes nothing.
-use Rattle.std.proofs.Common.{◌≡◌, ℕ, ◌+◌, ◌-◌, ◌*◌, ◌<◌, ◌≤◌, cond, List, [], ◌∷◌, ◌++◌, map, length, get_or, drop, sym, refl, ap, ◌∙◌, subst, arith}
+use Rattle.std.proofs.Common.{◌≡◌, ℕ, ◌+◌, ◌-◌, ◌<◌, ◌≤◌, cond, List, [], ◌∷◌, ◌++◌, map, length, get_or, drop}
 use Rattle.std.specs.List.{range_with_len, flat_map, between, AllByRecursion as All}
 use Rattle.shapes.specs.declared.dims.Dim.{Dim}
-use Rattle.shapes.specs.declared.shape.Shape.{Shape}
 use Rattle.shapes.specs.Arrays.{volume, total_chunks}
 use Rattle.shapes.specs.Limits.{Fit}
 use Rattle.shapes.specs.Views.{dims_of}
 use Rattle.shapes.proofs.Held.{all_fit, limits}
 use Rattle.sources.specs.declared.rows.Row.{Row}
-use Rattle.chunk_files.specs.Layouts.{bodies_at, directory_at}
+use Rattle.chunk_files.specs.Layouts.{bodies_at}
 use Rattle.chunk_files.specs.Bodies.{pair_bytes, cell_bytes, held}
 use Rattle.chunk_writers.specs.declared.keys.Key.{Key}
 use Rattle.chunk_writers.specs.declared.table.Table.{Table}
-use Rattle.chunk_writers.specs.Keys.{none_key, pair_of, Keyed, Cut, Rising}
+use Rattle.chunk_writers.specs.Keys.{none_key, pair_of, Cut, Rising}
 use Rattle.chunk_writers.specs.Segments.{Kept, Climbs}
 use Rattle.chunk_writers.specs.Tables.{Sound, cells_in}
 use Rattle.chunk_writers.specs.Written.{dense, body_size, made_entry, entries_of, file_bytes}

@@ -1,5 +1,5 @@
 -- What is written is read back. Assumes nothing.
-use Rattle.std.proofs.Common.{◌≡◌, ℕ, zero, suc, ◌+◌, ◌-◌, ◌*◌, ◌^◌, ◌<◌, ◌≤◌, Bool, true, false, cond, not, ◌&&◌, ◌||◌, eqb, ltb, leb, ◌≢◌, List, [], ◌∷◌, ◌++◌, map, length, get_or, is_some, Some, None, Ok, Err, Option, sym, refl, ap, ◌∙◌, subst, inl, inr, zero-add, arith}
+use Rattle.std.proofs.Common.{◌≡◌, ℕ, zero, suc, ◌+◌, ◌*◌, ◌^◌, ◌<◌, ◌≤◌, Bool, true, false, cond, not, eqb, ltb, leb, ◌≢◌, List, [], ◌∷◌, ◌++◌, map, length, get_or, is_some, Some, None, Ok, Option, sym, refl, ap, ◌∙◌, subst, inl, inr, zero-add, arith}
 use Rattle.std.specs.List.{range_with_len, flat_map, AllByRecursion as All}
 use Rattle.std.proofs.lemmas.List.{append-nil, length-append, length-map, get_or-map}
 use Rattle.std.proofs.lemmas.List.FromFn.{fill_by_all, length-map-range_with_len, get_or-map-range_with_len}
@@ -10,14 +10,14 @@ use Rattle.shapes.specs.Arrays.{volume, total_chunks, inside, sizes}
 use Rattle.shapes.specs.Limits.{Limits, or_else}
 use Rattle.sources.specs.declared.rows.Row.{Row}
 use Rattle.sources.specs.Readings.{is_reading}
-use Rattle.sources.specs.Rows.{on_cell, in-range}
+use Rattle.sources.specs.Rows.{on_cell}
 use Rattle.chunk_files.specs.declared.entry.Entry.{Entry}
-use Rattle.chunk_files.specs.Layouts.{le4, word, body_length, Right, Laid, Layout, bodies_at, file_fault, file_dims}
-use Rattle.chunk_files.specs.Bodies.{Fault, fault_if, Pair, pair_at, pair_bytes, pairs_in, held, offset_fits, pair_fault, pairs_fault, cell_word, cell_bytes, words_in, word_cell, word_fits, words_fault, filled, unless, sparse_cells, sparse_fault, dense_cells, dense_fault, body, readings, Tells}
+use Rattle.chunk_files.specs.Layouts.{le4, word, body_length, Right, Laid, Layout, bodies_at}
+use Rattle.chunk_files.specs.Bodies.{Fault, fault_if, pair_at, pair_bytes, pairs_in, held, offset_fits, pairs_fault, cell_word, cell_bytes, words_in, word_cell, word_fits, words_fault, filled, unless, sparse_cells, sparse_fault, dense_cells, dense_fault, body, readings}
 use Rattle.chunk_files.proofs.Encoded.{ShortPair, pair_back, word_back, records_back}
-use Rattle.chunk_files.proofs.Formed.{from-layout, layout_tells}
+use Rattle.chunk_files.proofs.Formed.{from_layout, layout_tells}
 use Rattle.chunk_writers.specs.Keys.{row_at, InRange}
-use Rattle.chunk_writers.specs.Written.{pairs_of, dense, body_bytes, body_size, made_entry, entries_of, bodies_of, file_bytes, in_cell, in-chunk, in-chunks}
+use Rattle.chunk_writers.specs.Written.{pairs_of, dense, body_bytes, made_entry, entries_of, bodies_of, file_bytes, in_cell, in_chunk, in_chunks}
 use Rattle.chunk_writers.specs.Trips.{ReadBack}
 use Rattle.chunk_writers.proofs.Pairing.{length_pairs_of, first_cases}
 use Rattle.chunk_writers.proofs.Filed.{length_joined, length_entries_of, length_file, all_bodies}
@@ -178,44 +178,44 @@ module _ (ds : List Dim) (limits : Limits ds) (rows : List Row) (ranged : InRang
   all_map_counting P f a zero h = tt
   all_map_counting P f a (suc n) h = (h a, all_map_counting P f (a + 1) n h)
 
-  whole_chunk : (j : ℕ) → Whole (volume ds) (in-chunk ds rows j)
+  whole_chunk : (j : ℕ) → Whole (volume ds) (in_chunk ds rows j)
   whole_chunk j = (length-map-range_with_len (in_cell ds rows j) 0 (volume ds), all_map_counting Small (in_cell ds rows j) 0 (volume ds) (small_cell j))
 
-  length_chunks : length (in-chunks ds rows) ≡ total_chunks ds
-  length_chunks = length-map-range_with_len (in-chunk ds rows) 0 (total_chunks ds)
+  length_chunks : length (in_chunks ds rows) ≡ total_chunks ds
+  length_chunks = length-map-range_with_len (in_chunk ds rows) 0 (total_chunks ds)
 
-  module _ (short : length (file_bytes ds (in-chunks ds rows)) ≤ 4294967295) where
-    pub written_layout : Layout (file_bytes ds (in-chunks ds rows)) ds (entries_of (volume ds) (bodies_at ds) (in-chunks ds rows)) (bodies_of (volume ds) (in-chunks ds rows))
+  module _ (short : length (file_bytes ds (in_chunks ds rows)) ≤ 4294967295) where
+    pub written_layout : Layout (file_bytes ds (in_chunks ds rows)) ds (entries_of (volume ds) (bodies_at ds) (in_chunks ds rows)) (bodies_of (volume ds) (in_chunks ds rows))
     unfolding file_bytes
     written_layout =
-        let f = length_file ds (in-chunks ds rows) length_chunks in
+        let f = length_file ds (in_chunks ds rows) length_chunks in
         record {
           limits = limits;
           made = refl;
-          each_entry = length_entries_of (volume ds) (bodies_at ds) (in-chunks ds rows) ∙ length_chunks;
-          each_body = length-map (in-chunks ds rows) (body_bytes (volume ds)) ∙ length_chunks;
-          laid = laid_bodies (volume ds) (bodies_at ds) (in-chunks ds rows) limits.small_chunk (all_map_counting (Whole (volume ds)) (in-chunk ds rows) 0 (total_chunks ds) whole_chunk) (omega arith);
+          each_entry = length_entries_of (volume ds) (bodies_at ds) (in_chunks ds rows) ∙ length_chunks;
+          each_body = length-map (in_chunks ds rows) (body_bytes (volume ds)) ∙ length_chunks;
+          laid = laid_bodies (volume ds) (bodies_at ds) (in_chunks ds rows) limits.small_chunk (all_map_counting (Whole (volume ds)) (in_chunk ds rows) 0 (total_chunks ds) whole_chunk) (omega arith);
         }
 
     none_entry : Entry
     none_entry = record { start = 0; count = 0; kind = 0; spare = 0 }
 
-    chunk_back : (j : ℕ) → j < total_chunks ds → readings (file_bytes ds (in-chunks ds rows)) j ≡ Ok (in-chunk ds rows j)
+    chunk_back : (j : ℕ) → j < total_chunks ds → readings (file_bytes ds (in_chunks ds rows)) j ≡ Ok (in_chunk ds rows j)
     chunk_back j l =
-        let css = in-chunks ds rows in
+        let css = in_chunks ds rows in
         let V = volume ds in
         let n = length_chunks in
         let E = getD_entries V (bodies_at ds) j css none_entry (omega arith) in
-        let there : get_or css j [] ≡ in-chunk ds rows j = get_or-map-range_with_len (in-chunk ds rows) 0 (total_chunks ds) j j [] l (omega arith) in
-        let bytes : get_or (bodies_of V css) j [] ≡ body_bytes V (in-chunk ds rows j) = get_or-map (body_bytes V) css j [] [] (omega arith) ∙ ap (body_bytes V) there in
+        let there : get_or css j [] ≡ in_chunk ds rows j = get_or-map-range_with_len (in_chunk ds rows) 0 (total_chunks ds) j j [] l (omega arith) in
+        let bytes : get_or (bodies_of V css) j [] ≡ body_bytes V (in_chunk ds rows j) = get_or-map (body_bytes V) css j [] [] (omega arith) ∙ ap (body_bytes V) there in
         (layout_tells (file_bytes ds css) ds (entries_of V (bodies_at ds) css) (bodies_of V css) written_layout).chunks j none_entry l
         ∙ (λ i. body V ((E.1 ∙ ap (λ (cs : List (Option ℕ)). made_entry V E.0 (filled cs)) there) i) (bytes i))
-        ∙ body_back V (in-chunk ds rows j) (whole_chunk j).0 limits.small_chunk (whole_chunk j).1 E.0
+        ∙ body_back V (in_chunk ds rows j) (whole_chunk j).0 limits.small_chunk (whole_chunk j).1 E.0
 
-    pub read_back : ReadBack ds rows (file_bytes ds (in-chunks ds rows))
+    pub read_back : ReadBack ds rows (file_bytes ds (in_chunks ds rows))
     read_back = record {
       layout = written_layout;
-      opens = from-layout (file_bytes ds (in-chunks ds rows)) ds (entries_of (volume ds) (bodies_at ds) (in-chunks ds rows)) (bodies_of (volume ds) (in-chunks ds rows)) written_layout;
-      dims = (layout_tells (file_bytes ds (in-chunks ds rows)) ds (entries_of (volume ds) (bodies_at ds) (in-chunks ds rows)) (bodies_of (volume ds) (in-chunks ds rows)) written_layout).dims;
+      opens = from_layout (file_bytes ds (in_chunks ds rows)) ds (entries_of (volume ds) (bodies_at ds) (in_chunks ds rows)) (bodies_of (volume ds) (in_chunks ds rows)) written_layout;
+      dims = (layout_tells (file_bytes ds (in_chunks ds rows)) ds (entries_of (volume ds) (bodies_at ds) (in_chunks ds rows)) (bodies_of (volume ds) (in_chunks ds rows)) written_layout).dims;
       chunks = chunk_back;
     }

@@ -1,19 +1,18 @@
 -- Two rows on one cell: their keys are neighbours once they are sorted. Assumes nothing.
-use Rattle.std.proofs.Common.{◌≡◌, ℕ, zero, suc, ◌+◌, ◌-◌, ◌<◌, ◌≤◌, min, Bool, true, false, cond, ◌&&◌, eqb, ◌≢◌, ◌⊎◌, List, [], ◌∷◌, ◌++◌, map, length, get_or, take, drop, is_some, Some, None, sum_by, Option, sym, refl, ap, ◌∙◌, subst, inl, inr, arith}
+use Rattle.std.proofs.Common.{◌≡◌, ℕ, zero, suc, ◌+◌, ◌-◌, ◌<◌, ◌≤◌, min, Bool, true, false, cond, ◌&&◌, eqb, ◌≢◌, ◌⊎◌, List, [], ◌∷◌, ◌++◌, map, length, get_or, take, drop, is_some, Some, None, sum_by, sym, refl, ap, ◌∙◌, subst, inl, inr, arith}
 use Rattle.std.specs.List.{range_with_len, ContainsAt as Has, AllByRecursion as All}
 use Rattle.std.specs.List.Sorted.{IsPermutation}
 use Rattle.std.proofs.lemmas.List.FromFn.{length-map-range_with_len, get_or-map-range_with_len}
-use Rattle.std.proofs.ByRecursion.{All_from_get_or, All-get_or, has_get_or, all_shuffled, has_shuffled}
-use Rattle.std.proofs.lemmas.List.{get_or-take, take_more, drop_more, length-take-le, take_all, drop_all}
+use Rattle.std.proofs.ByRecursion.{All-from_get_or, All-get_or, has_get_or, all_shuffled, has_shuffled}
+use Rattle.std.proofs.lemmas.List.{get_or-take, take_more, drop_more, length-take-le, drop_all}
 use Rattle.std.proofs.lemmas.List.Sorted.{length_permutation, sum_by-IsPermutation}
 use Rattle.std.proofs.lemmas.List.Sums.{sum_by-cons}
 use Rattle.std.proofs.lemmas.Bool.{and_parts, and_from, eqb-true, eq-eqb, ne_eqb, cond-true, cond-false, cases_lt, cases_eq}
-use Rattle.std.proofs.lemmas.Bool.Decides.{nat_tests}
 use Rattle.shapes.specs.declared.dims.Dim.{Dim}
 use Rattle.shapes.specs.Arrays.{storage, offset}
 use Rattle.shapes.specs.Limits.{Fit}
 use Rattle.sources.specs.declared.rows.Row.{Row}
-use Rattle.sources.specs.Rows.{on_cell, in-range}
+use Rattle.sources.specs.Rows.{on_cell, in_range}
 use Rattle.chunk_writers.specs.declared.keys.Key.{Key}
 use Rattle.chunk_writers.specs.Keys.{none_key, row_at, none_row, key_of, all_keys, InRange, Below, Together, Ordered, Keyed, Repeated}
 use Rattle.chunk_writers.specs.Written.{in_cell}
@@ -148,7 +147,7 @@ module _ (ds : List Dim) (rows : List Row) where
     | inr f ↦ ap is_some f.0
   ]
 
-  is_taken : (fit : All Fit ds) (h i : ℕ) → h < i → i < length rows → in-range ds (row_at rows h) ≡ true → SameCell h i → taken i ≡ true
+  is_taken : (fit : All Fit ds) (h i : ℕ) → h < i → i < length rows → in_range ds (row_at rows h) ≡ true → SameCell h i → taken i ≡ true
   is_taken fit h i l m good cell = elim (first_cases (on_cell ds (storage ds (row_at rows i).at) (offset ds (row_at rows i).at)) (take i rows)) [
     | inl f ↦ ap is_some f.3
     | inr f ↦
@@ -182,7 +181,7 @@ module _ (ds : List Dim) (fit : All Fit ds) (rows : List Row) (ks : List Key) (r
 
   pub key_each : (p : ℕ) (d : Key) → p < length ks → Own (get_or ks p d)
   key_each p d l = All-get_or Own ks p d l (all_shuffled Own (all_keys ds rows) ks shuffled
-      (All_from_get_or Own (all_keys ds rows) none_key (λ i g.
+      (All-from_get_or Own (all_keys ds rows) none_key (λ i g.
       let n = length-map-range_with_len (key_of ds rows) 0 (length rows) in
       subst Own (sym (get_or-map-range_with_len (key_of ds rows) 0 (length rows) i i none_key (omega arith) (omega arith))) (omega arith, refl))))
 

@@ -5,8 +5,8 @@ use Rattle.shapes.specs.Arrays.{storage, offset}
 use Rattle.sources.specs.declared.rows.Row.{Row}
 use Rattle.sources.specs.Rows.{first_outside}
 use Rattle.chunk_writers.specs.declared.refusals.WriteRefusal.{WriteRefusal}
-use Rattle.chunk_writers.specs.declared.refusals.WriteRefusal.TheVariants.{Twice, Long, Room, Memory, Row as OutOfRange}
-use Rattle.chunk_writers.specs.Written.{in_cell, in-chunks, file_bytes}
+use Rattle.chunk_writers.specs.declared.refusals.WriteRefusal.TheVariants.{Twice, Long, Room, Row as OutOfRange}
+use Rattle.chunk_writers.specs.Written.{in_cell, in_chunks, file_bytes}
 
 -- the first row on a cell that an earlier row has, of rows that are numbered from i on; `seen` stands before them
 abbrev pub first_twice : List Dim → ℕ → List Row → List Row → Option ℕ
@@ -29,7 +29,7 @@ range_answer None r = r
 abbrev pub write_answer : List Dim → List Row → ℕ → Result ℕ WriteRefusal
 write_answer ds rows room =
     range_answer (first_outside ds 0 rows)
-    (twice_answer (first_twice ds 0 [] rows) (room_answer (length (file_bytes ds (in-chunks ds rows))) room))
+    (twice_answer (first_twice ds 0 [] rows) (room_answer (length (file_bytes ds (in_chunks ds rows))) room))
 
 -- what it leaves of the buffer: the file, and then what stood there; all of it where the write is refused
 abbrev pub file_after : List ℕ → List ℕ → Result ℕ WriteRefusal → List ℕ
@@ -37,7 +37,7 @@ file_after file out (Ok n) = file ++ drop (length file) out
 file_after file out (Err e) = out
 
 abbrev pub bytes_after : List Dim → List Row → List ℕ → Result ℕ WriteRefusal → List ℕ
-bytes_after ds rows out r = file_after (file_bytes ds (in-chunks ds rows)) out r
+bytes_after ds rows out r = file_after (file_bytes ds (in_chunks ds rows)) out r
 
 -- what a check of the rows alone answers
 abbrev pub rows_checked : Option ℕ → Result (Unit {0}) WriteRefusal

@@ -1,10 +1,10 @@
 -- Keys of rows, and where the keys of a chunk begin and end. Assumes nothing.
-use Rattle.std.specs.Prelude.{◌≡◌, ℕ, ◌+◌, ◌*◌, ◌<◌, ◌≤◌, true, ◌⊎◌, List, [], ◌∷◌, map, length, get_or, slice_index_or}
+use Rattle.std.specs.Prelude.{◌≡◌, ℕ, ◌+◌, ◌<◌, ◌≤◌, true, ◌⊎◌, List, [], map, length, get_or, slice_index_or}
 use Rattle.std.specs.List.{range_with_len}
 use Rattle.shapes.specs.declared.dims.Dim.{Dim}
 use Rattle.shapes.specs.Arrays.{storage, offset}
 use Rattle.sources.specs.declared.rows.Row.{Row}
-use Rattle.sources.specs.Rows.{in-range}
+use Rattle.sources.specs.Rows.{in_range}
 use Rattle.chunk_files.specs.Bodies.{Pair}
 use Rattle.chunk_writers.specs.declared.keys.Key.{Key}
 
@@ -21,7 +21,7 @@ none_key = record { chunk = 0; offset = 0; row = 0 }
 
 -- every row is in range
 abbrev pub InRange : List Dim → List Row → Type 0
-InRange ds rows = (i : ℕ) → i < length rows → in-range ds (row_at rows i) ≡ true
+InRange ds rows = (i : ℕ) → i < length rows → in_range ds (row_at rows i) ≡ true
 
 -- the key of row i
 abbrev pub key_of : List Dim → List Row → ℕ → Key

@@ -57,8 +57,8 @@ abbrev pub in_cell : List Dim → List Row → ℕ → ℕ → Option ℕ
 in_cell ds rows j x = first_of (cell_readings ds rows j x)
 
 -- the cells of chunk j by offset, and those of each chunk
-abbrev pub in-chunk : List Dim → List Row → ℕ → List (Option ℕ)
-in-chunk ds rows j = map (in_cell ds rows j) (range_with_len 0 (volume ds))
+abbrev pub in_chunk : List Dim → List Row → ℕ → List (Option ℕ)
+in_chunk ds rows j = map (in_cell ds rows j) (range_with_len 0 (volume ds))
 
-abbrev pub in-chunks : List Dim → List Row → List (List (Option ℕ))
-in-chunks ds rows = map (in-chunk ds rows) (range_with_len 0 (total_chunks ds))
+abbrev pub in_chunks : List Dim → List Row → List (List (Option ℕ))
+in_chunks ds rows = map (in_chunk ds rows) (range_with_len 0 (total_chunks ds))

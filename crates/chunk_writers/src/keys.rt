@@ -1,9 +1,9 @@
 // A key for each row: its cell and its number.
 ghost use Rattle.std.specs.Prelude.{◌≡◌, ℕ, ◌+◌, ◌<◌, ◌≤◌, min, true, ◌&&◌, length, IfOk, if◌then◌else◌, vec_len, ◌==◌, nat_eq};
 ghost use Rattle.std.specs.List.Sorted.{IsPermutation};
-ghost use Rattle.shapes.specs.Arrays.{storage, offset as offset-in};
+ghost use Rattle.shapes.specs.Arrays.{storage, offset as offset_in};
 ghost use Rattle.shapes.specs.Views.{dims_of};
-ghost use Rattle.sources.specs.Rows.{in-range};
+ghost use Rattle.sources.specs.Rows.{in_range};
 ghost use Rattle.chunk_writers.specs.Keys.{Ordered, InRange, all_keys, Repeated};
 
 use shapes::Shape;
@@ -20,8 +20,8 @@ pub(crate) struct Key {
 
 // The key of a row that is in range, and has this number.
 fn key_of(shape: &Shape, row: Row, number: usize) -> Key
-    requires { in-range (dims_of shape.now) row ≡ true }
-    ensures { result ≡ record { chunk = storage (dims_of shape.now) row.at; offset = offset-in (dims_of shape.now) row.at; row = number } }
+    requires { in_range (dims_of shape.now) row ≡ true }
+    ensures { result ≡ record { chunk = storage (dims_of shape.now) row.at; offset = offset_in (dims_of shape.now) row.at; row = number } }
 {
     Key {
         chunk: shape.storage_number(shape.chunk_of(row.at)).unwrap_or(0),
@@ -47,7 +47,7 @@ fn sort_keys(keys: &mut Vec<Key>)
     ensures shuffled { IsPermutation keys.old.items keys.new.items }
     ensures ordered { Ordered keys.new.items }
 {
-    keys.sort();
+    keys.sort_unstable();
 }
 
 // The keys of rows that are in range, by rising cell, and those of one cell by rising row.

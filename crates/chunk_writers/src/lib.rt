@@ -1,4 +1,6 @@
 // Rows written as a chunk file.
+#![tactic(auto)]
+
 mod bodies;
 mod keys;
 mod meaning;

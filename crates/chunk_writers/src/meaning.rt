@@ -10,5 +10,5 @@ use sources::RowTable;
 
 /// Over any measure, an opened file means what a table of rows means, where the file is what a write of these rows left.
 pub fn written_means_rows<M: Measure>(file: &ChunkFile<'_>, table: &RowTable<'_>)
-    ensures { WrittenOf (dims_of table.now.shape) table.now.rows.now file.now.bytes.now → Alike (file_meaning empty op lifted file.now.bytes.now) (rows_meaning empty op lifted (dims_of table.now.shape) table.now.rows.now) }
+    ensures { WrittenOf (dims_of table.now.shape) table.now.rows.now file.now.bytes.now → Alike (file_meaning M.empty M.op M.lifted file.now.bytes.now) (rows_meaning M.empty M.op M.lifted (dims_of table.now.shape) table.now.rows.now) }
 {}

@@ -1,7 +1,7 @@
 // What stops a write.
 ghost use Rattle.std.specs.Prelude.{◌≡◌};
 ghost use Rattle.chunk_writers.specs.Refusals.{write_refusal};
-ghost use Rattle.chunk_writers.specs.declared.refusals.WriteRefusal.TheVariants.{Memory as no-memory};
+ghost use Rattle.chunk_writers.specs.declared.refusals.WriteRefusal.TheVariants.{Memory as no_memory};
 
 use shapes::Cause;
 use std::alloc::AllocError;
@@ -22,7 +22,7 @@ pub enum WriteRefusal {
 }
 
 impl From<AllocError> for WriteRefusal {
-    ghost from_gives = { λ x y. y ≡ no-memory };
+    ghost from_gives = { λ x y. y ≡ no_memory };
 
     fn from(_e: AllocError) -> WriteRefusal {
         WriteRefusal::Memory

@@ -2,7 +2,7 @@
 ghost use Rattle.std.specs.Prelude.{◌≡◌, ℕ, ◌<◌, ◌≤◌, ◌⊎◌, length, take, IfOk, None, Ok, Err, MatchResult};
 ghost use Rattle.shapes.specs.Views.{dims_of};
 ghost use Rattle.sources.specs.Rows.{first_outside};
-ghost use Rattle.chunk_writers.specs.declared.refusals.WriteRefusal.TheVariants.{Memory as no-memory, Twice as twice};
+ghost use Rattle.chunk_writers.specs.declared.refusals.WriteRefusal.TheVariants.{Memory as no_memory, Twice as twice};
 ghost use Rattle.chunk_writers.specs.Keys.{Repeated};
 ghost use Rattle.chunk_writers.specs.Trips.{ReadBack, WrittenOf};
 ghost use Rattle.chunk_writers.specs.Tables.{Sound, cells_in};
@@ -72,7 +72,7 @@ fn write_file(
     rows: &[Row],
     out: &mut [u8],
 ) -> Result<usize, WriteRefusal>
-    ensures answers { (result ≡ write_answer (dims_of shape.now) rows.now (length out.old)) ⊎ ((result ≡ Err no-memory) × (first_outside (dims_of shape.now) 0 rows.now ≡ None)) }
+    ensures answers { (result ≡ write_answer (dims_of shape.now) rows.now (length out.old)) ⊎ ((result ≡ Err no_memory) × (first_outside (dims_of shape.now) 0 rows.now ≡ None)) }
     ensures bytes { out.new ≡ bytes_after (dims_of shape.now) rows.now out.old result }
 {
     check_rows(shape, rows)?;
@@ -98,7 +98,7 @@ pub fn write(
     rows: &[Row],
     out: &mut [u8],
 ) -> Result<usize, WriteRefusal>
-    ensures answers { (result ≡ write_answer (dims_of shape.now) rows.now (length out.old)) ⊎ ((result ≡ Err no-memory) × (first_outside (dims_of shape.now) 0 rows.now ≡ None)) }
+    ensures answers { (result ≡ write_answer (dims_of shape.now) rows.now (length out.old)) ⊎ ((result ≡ Err no_memory) × (first_outside (dims_of shape.now) 0 rows.now ≡ None)) }
     ensures bytes { out.new ≡ bytes_after (dims_of shape.now) rows.now out.old result }
     ensures trip { IfOk result (λ n. ReadBack (dims_of shape.now) rows.now (take n out.new)) }
     ensures written { IfOk result (λ n. WrittenOf (dims_of shape.now) rows.now (take n out.new)) }

@@ -108,10 +108,10 @@ module _ (ds : List Dim) (place : ℕ → ℕ) (adds : Group → ℕ) (all : Lis
         at None q false s false e ih = ih e
 
     -- seen from the parent of a group that does not wait, the next block is not of the group's release
-    pub climb-leaves : (f : ℕ) (a z : Group) → ChildOf adds all a → waits (tree ds place adds all) t d a ≡ false → next_from (tree ds place adds all) t f d (parent adds a) ≡ Some z
+    pub climb_leaves : (f : ℕ) (a z : Group) → ChildOf adds all a → waits (tree ds place adds all) t d a ≡ false → next_from (tree ds place adds all) t f d (parent adds a) ≡ Some z
         → (i : ℕ) → Under (tree ds place adds all) (ChildOf adds all) i a z → ⊥
-    climb-leaves f a z c w e zero u = both_ways (waits (tree ds place adds all) t d z) (ap (waits (tree ds place adds all) t d) u ∙ w) (next_waits f (parent adds a) z e)
-    climb-leaves f a z c w e (suc i) u = let (b, j, v, near) = next_near f (parent adds a) z (parent_has ds place adds all S a c) e in
+    climb_leaves f a z c w e zero u = both_ways (waits (tree ds place adds all) t d z) (ap (waits (tree ds place adds all) t d) u ∙ w) (next_waits f (parent adds a) z e)
+    climb_leaves f a z c w e (suc i) u = let (b, j, v, near) = next_near f (parent adds a) z (parent_has ds place adds all S a c) e in
         ⊎_elim (λ s. omega (arith, levels j b (parent adds a) v, (laws ds place adds all S).level_up a c, levels (suc i) a z u, ap level s))
         (λ s. omega (arith, levels j b (parent adds a) v, (laws ds place adds all S).level_up a c, levels i a (parent adds z) u.1, ap level s.1)) near
       where
@@ -119,11 +119,11 @@ module _ (ds : List Dim) (place : ℕ → ℕ) (adds : Group → ℕ) (all : Lis
         levels k g y v = under_level (tree ds place adds all) (root (length ds)) (ChildOf adds all) level (laws ds place adds all S) k g y v
 
     -- a group above g that waits has the next block within its release
-    pub climb-stops : (f j : ℕ) (g a : Group) → Under (tree ds place adds all) (ChildOf adds all) j a g → j < f → waits (tree ds place adds all) t d a ≡ true
+    pub climb_stops : (f j : ℕ) (g a : Group) → Under (tree ds place adds all) (ChildOf adds all) j a g → j < f → waits (tree ds place adds all) t d a ≡ true
         → (z : Group) × (next_from (tree ds place adds all) t f d g ≡ Some z) × (i : ℕ) × Under (tree ds place adds all) (ChildOf adds all) i a z
-    climb-stops zero j g a u l w = absurd (omega arith)
-    climb-stops (suc f) j g a u l w = at (first (waits (tree ds place adds all) t d) (children adds all g)) refl (waits (tree ds place adds all) t d g) refl j u l
-        (λ i v m. climb-stops f i (parent adds g) a v m w)
+    climb_stops zero j g a u l w = absurd (omega arith)
+    climb_stops (suc f) j g a u l w = at (first (waits (tree ds place adds all) t d) (children adds all g)) refl (waits (tree ds place adds all) t d g) refl j u l
+        (λ i v m. climb_stops f i (parent adds g) a v m w)
       where
         Stops : Option Group → Type 0
         Stops o = (z : Group) × (o ≡ Some z) × (i : ℕ) × Under (tree ds place adds all) (ChildOf adds all) i a z

@@ -13,7 +13,7 @@ use Rattle.cubes.specs.Scans.{scan_number}
 use Rattle.cubes.specs.Handing.{Block, Scan, same_group, parent, of_group, handing, tally}
 use Rattle.cubes.specs.Control.{tree}
 use Rattle.cubes.specs.SummaryLaws.{parent_scan, held}
-use Rattle.cubes.specs.Turns.{handed_of, next_group, regions_over, in-release}
+use Rattle.cubes.specs.Turns.{handed_of, next_group, regions_over, in_release}
 use Rattle.cubes.specs.BetweenHands.{AtTurn, region_holds, BetweenHands}
 use Rattle.cubes.proofs.Cells.{chunk_below, below_cleared, below_set}
 use Rattle.cubes.proofs.Contents.{content_none, content_all, content_start}
@@ -55,9 +55,9 @@ module _ {M : Type 0} (empty : M) (op : M → M → M) (lawful : Lawful empty op
   pe = (tree ds place adds all).period h
 
   -- the blocks of the parent that go into a cell of the region at its turn have its number
-  in-turn : (i : ℕ) (x : List ℕ) → Below (sizes ds) x → AtTurn ds place adds all h i x → (k : ℕ) → k < chunks (dim ds (adds h))
+  in_turn : (i : ℕ) (x : List ℕ) → Below (sizes ds) x → AtTurn ds place adds all h i x → (k : ℕ) → k < chunks (dim ds (adds h))
       → parent_scan ds place h (adds h) (parent_block ds h (adds h) x k) / pe ≡ regions_over ds place adds all h i
-  in-turn i x below_x turn k lk =
+  in_turn i x below_x turn k lk =
       sym (region_rank ds place S.order h (adds h) lh le lacks (cleared h (chunk_of ds x)) (parent_block ds h (adds h) x k) below_b
       (below_set h (counts ds) (cleared h (chunk_of ds x)) (adds h) k below_b (rw (get_or-map chunks ds (adds h) none_dim 0 le) lk))
       (λ j l kept q. sym (get_or-set_other (cleared h (chunk_of ds x)) (adds h) j k 0 (λ e. omega (arith, ap place e)))))
@@ -77,10 +77,10 @@ module _ {M : Type 0} (empty : M) (op : M → M → M) (lawful : Lawful empty op
         arith,
         e,
         quotient_above (parent_scan ds place h (adds h) (parent_block ds h (adds h) x k)) pe (regions_over ds place adds all h i)
-            (in-turn i x below_x turn k lk),
+            (in_turn i x below_x turn k lk),
       ))
 
-  complete : (i : ℕ) → in-release ds adds h (next_group ds place adds all i) ≡ true → (x : List ℕ) → Below (sizes ds) x → AtTurn ds place adds all h i x
+  complete : (i : ℕ) → in_release ds adds h (next_group ds place adds all i) ≡ true → (x : List ℕ) → Below (sizes ds) x → AtTurn ds place adds all h i x
       → region_holds empty op σ place adds all h i x ≡ direct empty op σ h x
   complete i t x below_x turn = content_all empty op lawful ds σ.chunk (parent_scan ds place h (adds h)) h (adds h) x
       (handed_of ds place adds all (parent adds h) i) divided lh
@@ -89,7 +89,7 @@ module _ {M : Type 0} (empty : M) (op : M → M → M) (lawful : Lawful empty op
         arith,
         (turning ds place adds all S h c i t).1,
         quotient_below (parent_scan ds place h (adds h) (parent_block ds h (adds h) x k)) pe (regions_over ds place adds all h i) period_some
-            (in-turn i x below_x turn k lk),
+            (in_turn i x below_x turn k lk),
       ))
 
   -- how the parent's count goes on
@@ -124,15 +124,15 @@ module _ {M : Type 0} (empty : M) (op : M → M → M) (lawful : Lawful empty op
   -- where the turn ends, the parent's blocks are those of the regions before
   emptied : (i : ℕ) → i < length (handing ds place adds all) → regions_over ds place adds all h (i + 1) ≡ regions_over ds place adds all h i + 1
       → (x : List ℕ) → Below (sizes ds) x → AtTurn ds place adds all h (i + 1) x → region_holds empty op σ place adds all h (i + 1) x ≡ empty
-  emptied i l e x below_x turn = fresh (i + 1) x below_x turn (counts_are (cases_Bool (in-release ds adds h (next_group ds place adds all i))))
+  emptied i l e x below_x turn = fresh (i + 1) x below_x turn (counts_are (cases_Bool (in_release ds adds h (next_group ds place adds all i))))
     where
-      counts_are : (in-release ds adds h (next_group ds place adds all i) ≡ true) ⊎ (in-release ds adds h (next_group ds place adds all i) ≡ false)
+      counts_are : (in_release ds adds h (next_group ds place adds all i) ≡ true) ⊎ (in_release ds adds h (next_group ds place adds all i) ≡ false)
           → handed_of ds place adds all (parent adds h) (i + 1) ≡ regions_over ds place adds all h (i + 1) * pe
       counts_are (inr f) = absurd (omega (
         arith,
         e,
         (turns ds place adds all S h c).ends i l
-            ∙ ap (λ t. regions_over ds place adds all h i + cond (t && not (in-release ds adds h (next_group ds place adds all (i + 1)))) 1 0) f,
+            ∙ ap (λ t. regions_over ds place adds all h i + cond (t && not (in_release ds adds h (next_group ds place adds all (i + 1)))) 1 0) f,
       ))
       counts_are (inl t) = parent_same i l other ∙ ((turning ds place adds all S h c i t).1 ∙ ap (λ m. m * pe) (sym e))
         where

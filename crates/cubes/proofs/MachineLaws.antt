@@ -12,7 +12,7 @@ use Rattle.cubes.specs.Control.{start, MachineLaws, Numbered, Reached, Table, du
 use Rattle.cubes.proofs.Completions.{completes_is}
 use Rattle.cubes.proofs.Handing.{counts_le, of_blocks, released_first, released_is, released_of_groups, under_root}
 use Rattle.cubes.proofs.Listing.{all_unmap, all_back}
-use Rattle.cubes.proofs.Machine.{Runs, cases_group, next_after, next_after_step, one_more_other, one_more_same, some_more}
+use Rattle.cubes.proofs.Machine.{Runs, cases_group, next_after, next_after_step, one_more_other, one_more_same}
 use Rattle.cubes.proofs.States.{State, child_waits, due_by_is, numbered, numbered_by, state_hand, state_next, state_none, state_start, state_take}
 use Rattle.cubes.proofs.Trees.{ChildOf, inside, is_child, lacks_keeps, laws, level, level_root, sized}
 

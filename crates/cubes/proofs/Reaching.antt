@@ -124,9 +124,9 @@ module _ (ds : List Dim) (place : ℕ → ℕ) (adds : Group → ℕ) (all : Lis
           ∙ (tallied s.sequence t (group_at (length ds) at) s.table s.reached l (group (length ds) m)
           ∙ ap (λ i. tally (take i (handing ds place adds all)) (group (length ds) m)) s.handed))
 
-  from-counted : (t k : ℕ) (at : Option ℕ) (cs : List ℕ) → Counted ds place adds all t k at cs → (t ≤ total_chunks ds) × MaskWithin (length ds) at
+  from_counted : (t k : ℕ) (at : Option ℕ) (cs : List ℕ) → Counted ds place adds all t k at cs → (t ≤ total_chunks ds) × MaskWithin (length ds) at
       × Progress ds place adds all t k at cs
-  from-counted t k at cs s = (
+  from_counted t k at cs s = (
     s.within,
     below at s.next,
     record {
@@ -160,4 +160,4 @@ module _ (ds : List Dim) (place : ℕ → ℕ) (adds : Group → ℕ) (all : Lis
           ∙ (ap (tally (take k (handing ds place adds all))) (sym (mask_back (length ds) h l)) ∙ sym (s.tallies (mask h) (mask_within (length ds) h l))))
 
   pub progress_is_counted : ProgressIsCounted ds place adds all
-  progress_is_counted t k at cs = (λ p. to_counted t k at cs p.0 p.1 p.2, from-counted t k at cs)
+  progress_is_counted t k at cs = (λ p. to_counted t k at cs p.0 p.1 p.2, from_counted t k at cs)

@@ -8,7 +8,7 @@ use Rattle.shapes.specs.declared.dims.Dim.{Dim}
 use Rattle.shapes.specs.Arrays.{Group, total_chunks, chunks, dim, root}
 use Rattle.cubes.specs.Handing.{Block, Scan, same_group, parent, region_blocks, released, handing, tally}
 use Rattle.cubes.specs.Control.{Numbered, Table, tree, WithinDue, waits, one_more, next_from, Reached, pass, hand, MachineLaws}
-use Rattle.cubes.specs.Turns.{stands_below, handed_of, next_group, blocks_over, regions_over, parent_blocks, in-release, Turns}
+use Rattle.cubes.specs.Turns.{stands_below, handed_of, next_group, blocks_over, regions_over, parent_blocks, in_release, Turns}
 use Rattle.cubes.proofs.Machine.{Under, same_group_true, same_group_refl, same_group_ne, one_more_same, one_more_other, under_level, is_waiting, last_of}
 use Rattle.cubes.proofs.Trees.{ChildOf, level, level_le, laws, sized, inside, lacks_keeps, lacking_not_root, parent_has}
 use Rattle.cubes.proofs.Ranks.{width_parent}
@@ -16,7 +16,7 @@ use Rattle.cubes.proofs.RegionCells.{region_blocks_are}
 use Rattle.cubes.proofs.Handing.{always_within_due}
 use Rattle.cubes.proofs.MachineLaws.{machine_laws}
 use Rattle.cubes.proofs.Reaching.{Reachable, reachable, tallied}
-use Rattle.cubes.proofs.Climbing.{waiting_now, quotient_is, below_under, under_below, next_above, climb-stops, pending}
+use Rattle.cubes.proofs.Climbing.{waiting_now, quotient_is, below_under, under_below, next_above, climb_stops, pending}
 
 abbrev none_block : Block
 none_block = record { of = []; at = [] }
@@ -198,22 +198,22 @@ module _ (ds : List Dim) (place : ℕ → ℕ) (adds : Group → ℕ) (all : Lis
     not_empty e = n (sym e ∙ ap root (ap length e ∙ sized ds place adds all S h c.0))
 
     -- a block of the release of h comes within the order
-    comes_within : (i : ℕ) → in-release ds adds h (next_group ds place adds all i) ≡ true → i < length (handing ds place adds all)
-    comes_within i t = ⊎_elim (λ l. l) (λ l. absurd (both_ways (in-release ds adds h (next_group ds place adds all i)) (none l) t))
+    comes_within : (i : ℕ) → in_release ds adds h (next_group ds place adds all i) ≡ true → i < length (handing ds place adds all)
+    comes_within i t = ⊎_elim (λ l. l) (λ l. absurd (both_ways (in_release ds adds h (next_group ds place adds all i)) (none l) t))
         (cases_lt i (length (handing ds place adds all)))
       where
-        none : length (handing ds place adds all) ≤ i → in-release ds adds h (next_group ds place adds all i) ≡ false
-        none l = ap (in-release ds adds h) (ap (λ b. b.of) (get_or_past (handing ds place adds all) i none_block l))
+        none : length (handing ds place adds all) ≤ i → in_release ds adds h (next_group ds place adds all i) ≡ false
+        none l = ap (in_release ds adds h) (ap (λ b. b.of) (get_or_past (handing ds place adds all) i none_block l))
             ∙ or_from (same_group [] h) (stands_below adds (length ds) [] h) (same_group_ne [] h not_empty) (nothing_below adds (length ds) h)
 
     -- the group of the next block is h or below it
-    release_under : (i : ℕ) (s : StateAt i) → in-release ds adds h (next_group ds place adds all i) ≡ true
+    release_under : (i : ℕ) (s : StateAt i) → in_release ds adds h (next_group ds place adds all i) ≡ true
         → (j : ℕ) × Under (tree ds place adds all) (ChildOf adds all) j h s.group_next
     release_under i s t = ⊎_elim (λ e. (0, same_group_true s.group_next h e))
         (λ e. let (j, u) = below_under ds place adds all S (length ds) s.group_next h (has_next i s) e in (suc j, u))
-        (or_cases (same_group s.group_next h) (stands_below adds (length ds) s.group_next h) (ap (in-release ds adds h) (sym (next_at i s)) ∙ t))
+        (or_cases (same_group s.group_next h) (stands_below adds (length ds) s.group_next h) (ap (in_release ds adds h) (sym (next_at i s)) ∙ t))
 
-    under_release : (j : ℕ) (z : Group) → Under (tree ds place adds all) (ChildOf adds all) j h z → in-release ds adds h z ≡ true
+    under_release : (j : ℕ) (z : Group) → Under (tree ds place adds all) (ChildOf adds all) j h z → in_release ds adds h z ≡ true
     under_release zero z u = or_left (same_group z h) (stands_below adds (length ds) z h) (ap (λ g. same_group g h) u ∙ same_group_refl h)
     under_release (suc j) z u = or_right (same_group z h) (stands_below adds (length ds) z h)
         (under_below ds place adds all S j (length ds) z h u (omega (arith, steps_within (suc j) z u)))
@@ -226,7 +226,7 @@ module _ (ds : List Dim) (place : ℕ → ℕ) (adds : Group → ℕ) (all : Lis
         (λ t. t) (cases_Bool (stands_below adds (length ds) g h))
 
     -- what is due while the release of a region goes on
-    pub turning : (i : ℕ) → in-release ds adds h (next_group ds place adds all i) ≡ true → (over i + 1 ≡ parent_count i / pe) × (parent_count i ≡ (over i + 1) * pe)
+    pub turning : (i : ℕ) → in_release ds adds h (next_group ds place adds all i) ≡ true → (over i + 1 ≡ parent_count i / pe) × (parent_count i ≡ (over i + 1) * pe)
     turning i t = let s = state_at i (comes_within i t) in let (j, u) = release_under i s t in at s j u
       where
         full : (s : StateAt i) (m : ℕ) → m + 1 ≡ s.table (parent adds h) / pe → s.table (parent adds h) % pe ≡ 0 → over i ≡ m
@@ -293,11 +293,11 @@ module _ (ds : List Dim) (place : ℕ → ℕ) (adds : Group → ℕ) (all : Lis
             is = resting i t (omega (arith, (due_at i).no_more))
 
     -- no block of the release of h comes where no block waits
-    none_of_release : (k : Group) → (k ≡ root (length ds)) ⊎ (k ≡ []) → in-release ds adds h k ≡ false
-    none_of_release k (inl e) = ap (in-release ds adds h) e
+    none_of_release : (k : Group) → (k ≡ root (length ds)) ⊎ (k ≡ []) → in_release ds adds h k ≡ false
+    none_of_release k (inl e) = ap (in_release ds adds h) e
         ∙ or_from (same_group (root (length ds)) h) (stands_below adds (length ds) (root (length ds)) h) (same_group_ne (root (length ds)) h (λ q. n (sym q)))
         (root_below (length ds) h)
-    none_of_release k (inr e) = ap (in-release ds adds h) e
+    none_of_release k (inr e) = ap (in_release ds adds h) e
         ∙ or_from (same_group [] h) (stands_below adds (length ds) [] h) (same_group_ne [] h not_empty) (nothing_below adds (length ds) h)
 
     parent_other : (j : ℕ) (g : Group) → Under (tree ds place adds all) (ChildOf adds all) j h g → parent adds h ≡ g → ⊥
@@ -314,7 +314,7 @@ module _ (ds : List Dim) (place : ℕ → ℕ) (adds : Group → ℕ) (all : Lis
         ∙ (one_more_other s.table s.group_next (parent adds h) (parent_other j s.group_next u) ∙ counts_at i s (parent adds h))
 
     -- the release goes on: the turn stays
-    turn_stays : (i : ℕ) → in-release ds adds h (next_group ds place adds all i) ≡ true → in-release ds adds h (next_group ds place adds all (i + 1)) ≡ true
+    turn_stays : (i : ℕ) → in_release ds adds h (next_group ds place adds all i) ≡ true → in_release ds adds h (next_group ds place adds all (i + 1)) ≡ true
         → over (i + 1) ≡ over i
     turn_stays i t t' =
         let s = state_at i (comes_within i t) in
@@ -323,7 +323,7 @@ module _ (ds : List Dim) (place : ℕ → ℕ) (adds : Group → ℕ) (all : Lis
         omega arith
 
     -- the release ends: the next region has its turn
-    turn_ends : (i : ℕ) → in-release ds adds h (next_group ds place adds all i) ≡ true → in-release ds adds h (next_group ds place adds all (i + 1)) ≡ false
+    turn_ends : (i : ℕ) → in_release ds adds h (next_group ds place adds all i) ≡ true → in_release ds adds h (next_group ds place adds all (i + 1)) ≡ false
         → over (i + 1) ≡ over i + 1
     turn_ends i t f =
         let s = state_at i (comes_within i t) in
@@ -341,9 +341,9 @@ module _ (ds : List Dim) (place : ℕ → ℕ) (adds : Group → ℕ) (all : Lis
 
             stop : own_count (i + 1) < parent_count (i + 1) / pe * sh → ⊥
             stop l =
-                let (z, e, k, v) = climb-stops ds place adds all S s.chunks_passed d (suc (length ds)) j s.group_next h u
+                let (z, e, k, v) = climb_stops ds place adds all S s.chunks_passed d (suc (length ds)) j s.group_next h u
                 (omega (arith, steps_within j s.group_next u)) waits_still in
-                both_ways (in-release ds adds h (next_group ds place adds all (i + 1))) f (ap (in-release ds adds h) (next_after i s (Some z) e)
+                both_ways (in_release ds adds h (next_group ds place adds all (i + 1))) f (ap (in_release ds adds h) (next_after i s (Some z) e)
                 ∙ under_release k z v)
               where
                 waits_still : waits (tree ds place adds all) s.chunks_passed d h ≡ true
@@ -352,7 +352,7 @@ module _ (ds : List Dim) (place : ℕ → ℕ) (adds : Group → ℕ) (all : Lis
                     (subst (λ m. own_count (i + 1) < m / pe * sh) (sym (counts_after i s (parent adds h))) l))
 
     -- a block of another release: the turn stays
-    turn_elsewhere : (i : ℕ) → i < length (handing ds place adds all) → in-release ds adds h (next_group ds place adds all i) ≡ false → over (i + 1) ≡ over i
+    turn_elsewhere : (i : ℕ) → i < length (handing ds place adds all) → in_release ds adds h (next_group ds place adds all i) ≡ false → over (i + 1) ≡ over i
     turn_elsewhere i l f = over_at_rest (i + 1) rest
         ∙ (ap (λ k. k / sh) same ∙ sym
         (over_at_rest i (or_parts (same_group (next_group ds place adds all i) h) (stands_below adds (length ds) (next_group ds place adds all i) h) f).1))
@@ -361,14 +361,14 @@ module _ (ds : List Dim) (place : ℕ → ℕ) (adds : Group → ℕ) (all : Lis
         s = state_at i l
 
         apart : (j : ℕ) → Under (tree ds place adds all) (ChildOf adds all) j h s.group_next → ⊥
-        apart j u = both_ways (in-release ds adds h (next_group ds place adds all i)) f (ap (in-release ds adds h) (next_at i s) ∙ under_release j s.group_next u)
+        apart j u = both_ways (in_release ds adds h (next_group ds place adds all i)) f (ap (in_release ds adds h) (next_at i s) ∙ under_release j s.group_next u)
 
         same : own_count (i + 1) ≡ own_count i
         same = sym (counts_after i s h) ∙ (one_more_other s.table s.group_next h (λ e. apart 0 (sym e)) ∙ counts_at i s h)
 
         at : (o : Option Group) → next_from (tree ds place adds all) s.chunks_passed (suc (length ds)) (one_more s.table s.group_next) s.group_next ≡ o
             → ComesNext o (next_group ds place adds all (i + 1)) → stands_below adds (length ds) (next_group ds place adds all (i + 1)) h ≡ true → ⊥
-        at None e k t = both_ways (in-release ds adds h (next_group ds place adds all (i + 1))) (none_of_release (next_group ds place adds all (i + 1)) k)
+        at None e k t = both_ways (in_release ds adds h (next_group ds place adds all (i + 1))) (none_of_release (next_group ds place adds all (i + 1)) k)
             (or_right (same_group (next_group ds place adds all (i + 1)) h) (stands_below adds (length ds) (next_group ds place adds all (i + 1)) h) t)
         at (Some z) e k t =
             let s' = state_at (i + 1) (comes_within (i + 1)
@@ -388,24 +388,24 @@ module _ (ds : List Dim) (place : ℕ → ℕ) (adds : Group → ℕ) (all : Lis
 
     ends : (i : ℕ) → i < length (handing ds place adds all)
         → over (i + 1) ≡ over i + cond
-        (in-release ds adds h (next_group ds place adds all i) && not (in-release ds adds h (next_group ds place adds all (i + 1)))) 1 0
-    ends i l = at (in-release ds adds h (next_group ds place adds all i)) refl (in-release ds adds h (next_group ds place adds all (i + 1))) refl
+        (in_release ds adds h (next_group ds place adds all i) && not (in_release ds adds h (next_group ds place adds all (i + 1)))) 1 0
+    ends i l = at (in_release ds adds h (next_group ds place adds all i)) refl (in_release ds adds h (next_group ds place adds all (i + 1))) refl
       where
-        at : (a : Bool) → in-release ds adds h (next_group ds place adds all i) ≡ a → (b : Bool) → in-release ds adds h (next_group ds place adds all (i + 1)) ≡ b
+        at : (a : Bool) → in_release ds adds h (next_group ds place adds all i) ≡ a → (b : Bool) → in_release ds adds h (next_group ds place adds all (i + 1)) ≡ b
             → over (i + 1) ≡ over i + cond (a && not b) 1 0
         at true t true t' = turn_stays i t t' ∙ omega arith
         at true t false f = turn_ends i t f
         at false f b q = turn_elsewhere i l f ∙ omega arith
 
     -- a block of the parent
-    parent_in_none : in-release ds adds h (parent adds h) ≡ false
+    parent_in_none : in_release ds adds h (parent adds h) ≡ false
     parent_in_none = or_from (same_group (parent adds h) h) (stands_below adds (length ds) (parent adds h) h)
         (same_group_ne (parent adds h) h (λ e. omega (arith, ap level e, (laws ds place adds all S).level_up h c)))
         (not_below 1 (parent adds h) (omega (arith, (laws ds place adds all S).level_up h c)) (parent_has ds place adds all S h c))
 
     joined : (i : ℕ) → i < length (handing ds place adds all) → next_group ds place adds all i ≡ parent adds h → (parent_count i / pe ≡ over i)
         × (over (i + 1) ≡ over i)
-    joined i l e = (sym (resting i rest settled), turn_elsewhere i l (ap (in-release ds adds h) e ∙ parent_in_none))
+    joined i l e = (sym (resting i rest settled), turn_elsewhere i l (ap (in_release ds adds h) e ∙ parent_in_none))
       where
         s : StateAt i
         s = state_at i l

@@ -7,7 +7,7 @@ use Rattle.sources.specs.Meanings.{Meaning}
 use Rattle.cubes.specs.Summaries.{Divided, direct, contribution}
 use Rattle.cubes.specs.Scans.{scan_number}
 use Rattle.cubes.specs.Handing.{Block, parent, region_blocks, handing, Scan}
-use Rattle.cubes.specs.Turns.{handed_of, next_group, regions_over, parent_blocks, in-release, Turns}
+use Rattle.cubes.specs.Turns.{handed_of, next_group, regions_over, parent_blocks, in_release, Turns}
 use Rattle.cubes.specs.SummaryLaws.{held}
 
 -- the cell x of h lies in the region that is at its turn after the first i blocks
@@ -39,7 +39,7 @@ pub record BetweenHands {M : Type 0} (empty : M) (op : M → M → M) (σ : Mean
   pub stays : (i : ℕ) → i < length (handing σ.dims place adds all) → (next_group σ.dims place adds all i ≢ parent adds h)
       → (x : List ℕ) → region_holds empty op σ place adds all h (i + 1) x ≡ region_holds empty op σ place adds all h i x
   -- complete: while the region is released, each of its cells is the direct summary
-  pub complete : (i : ℕ) → in-release σ.dims adds h (next_group σ.dims place adds all i) ≡ true
+  pub complete : (i : ℕ) → in_release σ.dims adds h (next_group σ.dims place adds all i) ≡ true
       → (x : List ℕ) → Below (sizes σ.dims) x → AtTurn σ.dims place adds all h i x → region_holds empty op σ place adds all h i x ≡ direct empty op σ h x
   -- emptied: where the turn ends, the next region begins empty
   pub emptied : (i : ℕ) → i < length (handing σ.dims place adds all) → regions_over σ.dims place adds all h (i + 1)

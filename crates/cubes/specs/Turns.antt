@@ -30,8 +30,8 @@ abbrev pub parent_blocks : List Dim → (ℕ → ℕ) → (Group → ℕ) → Gr
 parent_blocks ds place adds h = region_blocks ds place adds h * chunks (dim ds (adds h))
 
 -- a block of the group k is of the release of h: k is h or stands below it
-abbrev pub in-release : List Dim → (Group → ℕ) → Group → Group → Bool
-in-release ds adds h k = same_group k h || stands_below adds (length ds) k h
+abbrev pub in_release : List Dim → (Group → ℕ) → Group → Group → Bool
+in_release ds adds h k = same_group k h || stands_below adds (length ds) k h
 
 -- the regions of a group h have their turns one after another
 pub record Turns (ds : List Dim) (place : ℕ → ℕ) (adds : Group → ℕ) (all : List Group) (h : Group) : Type 0 where
@@ -51,4 +51,4 @@ pub record Turns (ds : List Dim) (place : ℕ → ℕ) (adds : Group → ℕ) (a
   pub ends : (i : ℕ) → i < length (handing ds place adds all)
       → regions_over ds place adds all h (i + 1)
       ≡ regions_over ds place adds all h i + cond
-      (in-release ds adds h (next_group ds place adds all i) && not (in-release ds adds h (next_group ds place adds all (i + 1)))) 1 0
+      (in_release ds adds h (next_group ds place adds all i) && not (in_release ds adds h (next_group ds place adds all (i + 1)))) 1 0

@@ -1,4 +1,6 @@
 // The theory of the scan: direct summaries, and the order in which blocks are handed out. Each function's contract is a theorem.
+#![tactic(auto)]
+
 mod examples;
 mod order_laws;
 mod summary_laws;

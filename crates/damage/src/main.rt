@@ -1,4 +1,6 @@
 // Writes chunk files, damages copies of them in every way that one cut or one flipped bit can, and tells what opening and fetching them found.
+#![tactic(auto)]
+
 mod survey;
 
 use anyhow::anyhow;

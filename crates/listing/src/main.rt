@@ -1,4 +1,6 @@
 // Reads a chunk file from standard input and lists its summaries.
+#![tactic(auto)]
+
 use listings::list_input;
 use std::io;
 use std::io::Read;

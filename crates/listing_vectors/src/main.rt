@@ -1,4 +1,6 @@
 // Lists every input named in `names` and compares what comes out with what it should be.
+#![tactic(auto)]
+
 use listings::list_input;
 use std::fs;
 

@@ -17,7 +17,7 @@ use Rattle.runs.specs.declared.refusals.RunRefusal.{RunRefusal}
 use Rattle.runs.specs.declared.refusals.RunRefusal.TheVariants.{TooFew, BlockWaits, AllPassed, OtherShape, NoBlock, ShortBuffer}
 use Rattle.runs.proofs.Filling.{product_radix_le}
 use Rattle.runs.specs.Planned.{places_of, adds_of, need_of, handing_order, released_after, scanned_storage, none_block, block_after, block_size}
-use Rattle.runs.specs.Answers.{View, passed, waits, too_few, same_dims, next_chunk, then-chunk, take_read, skip_read, take_answer, skip_answer, hand_name, hand_answer}
+use Rattle.runs.specs.Answers.{View, passed, waits, too_few, same_dims, next_chunk, then_chunk, take_read, skip_read, take_answer, skip_answer, hand_name, hand_answer}
 use Rattle.listings.specs.Listings.{cell_lines, block_lines}
 
 same_dims_as : (ds : List Dim) → same_dims ds ds ≡ true
@@ -119,10 +119,10 @@ module _ {M : Type 0} (σ : Meaning M) (v : View) (same : σ.dims ≡ v.dims) (e
 
     -- the next chunk is taken if it can be read, else skipped
     pub is_taken : is_ok (take_answer σ v) ≡ is_readable (σ.chunk next)
-    is_taken = ap (λ o. is_ok (then-chunk o (λ k. take_read (passed v) k (σ.chunk k)))) (next_is idle more) ∙ read_taken (passed v) next (σ.chunk next)
+    is_taken = ap (λ o. is_ok (then_chunk o (λ k. take_read (passed v) k (σ.chunk k)))) (next_is idle more) ∙ read_taken (passed v) next (σ.chunk next)
 
     pub is_skipped : is_ok (skip_answer σ v) ≡ not (is_readable (σ.chunk next))
-    is_skipped = ap (λ o. is_ok (then-chunk o (λ k. skip_read (σ.chunk k)))) (next_is idle more) ∙ read_skipped (σ.chunk next)
+    is_skipped = ap (λ o. is_ok (then_chunk o (λ k. skip_read (σ.chunk k)))) (next_is idle more) ∙ read_skipped (σ.chunk next)
 
   -- a block that waits is handed out
   pub is_handed : (room : ℕ) → waits v ≡ true → block_size v.dims (block_after v.dims v.handed) ≤ room → hand_answer v room ≡ Ok (hand_name v.dims (block_after v.dims v.handed))

@@ -11,7 +11,7 @@ use Rattle.runs.specs.Answers.{View, passed, waits, hand_name, one_handed}
 use Rattle.runs.specs.Holdings.{Moment, dims_in, view}
 use Rattle.runs.specs.Calls.{Hands, next_block}
 use Rattle.listings.specs.Listings.{block_lines, cell_lines}
-use Rattle.listings.specs.Making.{Driven, Goes_on, Rests, lines_upto}
+use Rattle.listings.specs.Making.{Driven, GoesOn, Rests, lines_upto}
 use Rattle.listings.proofs.DrivenAnswers.{hand_granted, handed_lines, lines_more, next_within}
 use Rattle.listings.proofs.DrivenEnds.{passed_within}
 use Rattle.listings.proofs.DrivenSteps.{driven_hand, driven_idle}
@@ -34,10 +34,10 @@ module _ {M : Type 0} (empty : M) (op : M → M → M) (b : Moment M) (old : Lis
       omega (arith, next_within (view b) (passed_within b) g.0)
 
 module _ {M : Type 0} (empty : M) (columns : M → List ℕ) (op : M → M → M) (σ : Meaning M) (s : Moment M) (before : List ℕ) (driven : Driven empty op σ s) where
-  pub goes_nowhere : Goes_on empty columns op σ s before s before
+  pub goes_nowhere : GoesOn empty columns op σ s before s before
   goes_nowhere = record { driven = driven; passes_none = refl; lines = λ head e. e }
 
-  module _ (b : Moment M) (was : List ℕ) (so_far : Goes_on empty columns op σ s before b was) (old : List M) (r : Result (ℕ × ℕ × ℕ) RunRefusal) (new : List M) (a : Moment M)
+  module _ (b : Moment M) (was : List ℕ) (so_far : GoesOn empty columns op σ s before b was) (old : List M) (r : Result (ℕ × ℕ × ℕ) RunRefusal) (new : List M) (a : Moment M)
       (hands : Hands empty op b old r new a) (room : volume (dims_in s) ≤ length old) where
     same : σ.dims ≡ dims_in b
     same = so_far.driven.represents.same_shape
@@ -46,7 +46,7 @@ module _ {M : Type 0} (empty : M) (columns : M → List ℕ) (op : M → M → M
     roomy = omega (arith, ap volume (sym same ∙ driven.represents.same_shape))
 
     -- one block more
-    pub goes_on_more : (x : ℕ × ℕ × ℕ) → r ≡ Ok x → (after : List ℕ) → after ≡ was ++ cell_lines empty columns x.0 x.1 0 (take x.2 new) → Goes_on empty columns op σ s before a after
+    pub goes_on_more : (x : ℕ × ℕ × ℕ) → r ≡ Ok x → (after : List ℕ) → after ≡ was ++ cell_lines empty columns x.0 x.1 0 (take x.2 new) → GoesOn empty columns op σ s before a after
     goes_on_more x e after then =
         let h = driven_hand empty op σ b so_far.driven old r new a hands roomy x e in
         let goes = h.1 in
@@ -68,10 +68,10 @@ module _ {M : Type 0} (empty : M) (columns : M → List ℕ) (op : M → M → M
         }
 
     -- no block waits any more, and the run is as it was
-    pub goes_on_idle : is_ok r ≡ false → (waits (view a) ≡ false) × Goes_on empty columns op σ s before a was
+    pub goes_on_idle : is_ok r ≡ false → (waits (view a) ≡ false) × GoesOn empty columns op σ s before a was
     goes_on_idle no-hand =
         let i = driven_idle empty op σ b so_far.driven old r new a hands roomy no-hand in
-        (ap (λ (m : Moment M). waits (view m)) i.1 ∙ i.0, subst (λ (m : Moment M). Goes_on empty columns op σ s before m was) (sym i.1) so_far)
+        (ap (λ (m : Moment M). waits (view m)) i.1 ∙ i.0, subst (λ (m : Moment M). GoesOn empty columns op σ s before m was) (sym i.1) so_far)
 
 -- From chunk to chunk
 
@@ -88,7 +88,7 @@ module _ {M : Type 0} (empty : M) (columns : M → List ℕ) (op : M → M → M
   }
 
   -- a chunk was passed, and the blocks that waited were handed out
-  pub rests_next : (b n a : Moment M) (was text : List ℕ) → Rests empty columns op σ before b was → (view n).handed ≡ (view b).handed → waits (view a) ≡ false → Goes_on empty columns op σ n was a text
+  pub rests_next : (b n a : Moment M) (was text : List ℕ) → Rests empty columns op σ before b was → (view n).handed ≡ (view b).handed → waits (view a) ≡ false → GoesOn empty columns op σ n was a text
       → Rests empty columns op σ before a text
   rests_next b n a was text rests same idle goes = record {
     driven = goes.driven;

@@ -1,7 +1,6 @@
 -- The second line of a listing.
-use Rattle.std.proofs.Common.{◌≡◌, ℕ, ◌+◌, Bool, true, false, cond, not, ◌⊎◌, List, [], ◌∷◌, ◌++◌, length, take, is_some, is_err, Some, None, Ok, Err, fold, Option, Result, sym, refl, ap, ◌∙◌, subst, inl, inr, arith}
+use Rattle.std.proofs.Common.{◌≡◌, ℕ, ◌+◌, Bool, cond, not, List, [], ◌∷◌, ◌++◌, length, take, is_some, is_err, Some, None, Ok, Err, fold, Option, Result, refl, ap, ◌∙◌, arith}
 use Rattle.std.specs.List.{range_with_len, flat_map}
-use Rattle.shapes.specs.declared.dims.Dim.{Dim}
 use Rattle.shapes.specs.declared.readings.Reading.{Reading}
 use Rattle.shapes.specs.Arrays.{total_chunks}
 use Rattle.shapes.specs.Limits.{Refusal, shape_fault}
@@ -9,7 +8,7 @@ use Rattle.shapes.proofs.Limited.{limits_from}
 use Rattle.measures.specs.Totals.{no_total, total_join, total_lift, total_columns}
 use Rattle.measures.specs.Ranges.{no_range, range_join, range_lift, range_columns}
 use Rattle.measures.specs.Markings.{no_marks, marks_join, marks_lift, marks_columns}
-use Rattle.plans.specs.Plans.{Edged, Least, plan_need}
+use Rattle.plans.specs.Plans.{Edged, plan_need}
 use Rattle.plans.proofs.LeastNeed.{least_need}
 use Rattle.chunk_files.specs.Layouts.{dims_in, file_dims}
 use Rattle.chunk_files.specs.Bodies.{Fault, readings}

@@ -17,12 +17,6 @@ pub behind : {E : Type 0} (r : Result (Unit {0}) E) (before was after bs cs : Li
 behind (Ok x) before was after bs cs first h = h ∙ (ap (λ ts. ts ++ cs) first ∙ append_assoc before bs cs)
 behind (Err f) before was after bs cs first h = tt
 
--- the same where the call went on
-pub went_on : {E F : Type 0} (w : Result (Unit {0}) E) (r : Result (Unit {0}) F) (x : Unit {0}) (before after bs : List ℕ)
-    → r ≡ Ok x → is_ok r ≡ is_ok w → Writes w before after bs → after ≡ before ++ bs
-went_on (Ok y) r x before after bs ok same h = h
-went_on (Err f) r x before after bs ok same h = let z : ◌≡◌ {A = ℕ} 0 1 = cc (ap is_ok ok) in absurd (omega arith)
-
 -- text behind text behind text
 pub two_writes : (before was after bs cs ds : List ℕ) → was ≡ before ++ bs → after ≡ was ++ cs → bs ++ cs ≡ ds → after ≡ before ++ ds
 two_writes before was after bs cs ds first second e = second ∙ (ap (λ ts. ts ++ cs) first ∙ (append_assoc before bs cs ∙ ap (λ ts. before ++ ts) e))

@@ -27,7 +27,7 @@ abbrev pub lines_upto : {M : Type 0} → M → (M → List ℕ) → (M → M →
 lines_upto empty columns op σ i = flat_map (block_lines empty columns op σ) (take i (handing_order σ.dims))
 
 -- a run over σ went on from one moment to another, at which as many chunks are passed; behind the lines of the blocks handed out before now stand those of all handed out
-pub record Goes_on {M : Type 0} (empty : M) (columns : M → List ℕ) (op : M → M → M) (σ : Meaning M) (b : Moment M) (before : List ℕ) (a : Moment M) (after : List ℕ) : Type 0 where
+pub record GoesOn {M : Type 0} (empty : M) (columns : M → List ℕ) (op : M → M → M) (σ : Meaning M) (b : Moment M) (before : List ℕ) (a : Moment M) (after : List ℕ) : Type 0 where
   pub driven : Driven empty op σ a
   pub passes_none : passed (view a) ≡ passed (view b)
   pub lines : (head : List ℕ) → before ≡ head ++ lines_upto empty columns op σ (view b).handed → after ≡ head ++ lines_upto empty columns op σ (view a).handed

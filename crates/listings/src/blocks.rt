@@ -14,8 +14,8 @@ fn add_if_filled<M: Measure>(
     offset: u64,
     value: &M,
 ) -> Result<(), AllocError>
-    requires { TellsEmpty empty columns }
-    ensures { Writes result (string_bytes text.old) (string_bytes text.new) (filled_line empty columns mask number offset value.now) }
+    requires { TellsEmpty M.empty M.columns }
+    ensures { Writes result (string_bytes text.old) (string_bytes text.new) (filled_line M.empty M.columns mask number offset value.now) }
 {
     if value.is_empty() {
         return Ok(());
@@ -30,8 +30,8 @@ pub(crate) fn add_block_lines<M: Measure>(
     number: u64,
     cells: &[M],
 ) -> Result<(), AllocError>
-    requires { TellsEmpty empty columns }
-    ensures { Writes result (string_bytes text.old) (string_bytes text.new) (cell_lines empty columns mask number 0 cells.now) }
+    requires { TellsEmpty M.empty M.columns }
+    ensures { Writes result (string_bytes text.old) (string_bytes text.new) (cell_lines M.empty M.columns mask number 0 cells.now) }
 {
     for i in 0..cells.len() {
         add_if_filled(text, mask, number, i as u64, &cells[i])?;

@@ -10,9 +10,9 @@ use sources::{Shaped, Source};
 
 // Each chunk is fetched once. The buffer should have V cells; into a shorter one no chunk can be fetched, so all count.
 pub(crate) fn count_unreadable<M: Measure, S: Source<M>>(source: &mut S, buffer: &mut [M]) -> u64
-    ensures same { means S.Shaped.told contents source.new ≡ means S.Shaped.told contents source.old }
-    ensures fetched { result ≡ unfetched_count (means S.Shaped.told contents source.old) (length buffer.old) }
-    ensures counted { volume (S.Shaped.told source.old) ≤ length buffer.old → result ≡ unreadable_chunks (means S.Shaped.told contents source.old) }
+    ensures same { means S.Shaped.told S.contents source.new ≡ means S.Shaped.told S.contents source.old }
+    ensures fetched { result ≡ unfetched_count (means S.Shaped.told S.contents source.old) (length buffer.old) }
+    ensures counted { volume (S.Shaped.told source.old) ≤ length buffer.old → result ≡ unreadable_chunks (means S.Shaped.told S.contents source.old) }
 {
     let mut count = 0;
     for number in 0..source.shape().total_chunks() {

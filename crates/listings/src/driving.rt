@@ -5,7 +5,7 @@ ghost use Rattle.sources.specs.Meanings.{Meaning, means};
 ghost use Rattle.runs.specs.Answers.{passed, waits};
 ghost use Rattle.runs.specs.Holdings.{dims_in, moment, view};
 ghost use Rattle.listings.specs.Listings.{TellsEmpty};
-ghost use Rattle.listings.specs.Making.{Driven, Ends, Goes_on};
+ghost use Rattle.listings.specs.Making.{Driven, Ends, GoesOn};
 
 use crate::blocks::add_block_lines;
 use measures::Measure;
@@ -15,11 +15,11 @@ use std::alloc::AllocError;
 
 // Passes the next chunk: it is taken if it can be read, else skipped.
 fn pass_chunk<M: Measure, S: Source<M>>(run: &mut Run<'_, M>, source: &mut S)
-    requires driven { Driven empty op (means S.Shaped.told contents source.old) (moment run.old) }
+    requires driven { Driven M.empty M.op (means S.Shaped.told S.contents source.old) (moment run.old) }
     requires idle { waits (view (moment run.old)) ≡ false }
     requires more { passed (view (moment run.old)) < total_chunks (S.Shaped.told source.old) }
-    ensures same { means S.Shaped.told contents source.new ≡ means S.Shaped.told contents source.old }
-    ensures driven { Driven empty op (means S.Shaped.told contents source.old) (moment run.new) }
+    ensures same { means S.Shaped.told S.contents source.new ≡ means S.Shaped.told S.contents source.old }
+    ensures driven { Driven M.empty M.op (means S.Shaped.told S.contents source.old) (moment run.new) }
     ensures passed { passed (view (moment run.new)) ≡ passed (view (moment run.old)) + 1 }
     ensures handed { (view (moment run.new)).handed ≡ (view (moment run.old)).handed }
 {
@@ -34,9 +34,9 @@ fn add_waiting_blocks<M: Measure>(
     run: &mut Run<'_, M>,
     buffer: &mut [M],
 ) -> Result<(), AllocError>
-    requires tells { TellsEmpty empty columns }
+    requires tells { TellsEmpty M.empty M.columns }
     requires room { volume (dims_in (moment run.old)) ≤ length buffer.old }
-    ensures { OnOk result ((σ : Meaning M) → Driven empty op σ (moment run.old) → (waits (view (moment run.new)) ≡ false) × Goes_on empty columns op σ (moment run.old) (string_bytes text.old) (moment run.new) (string_bytes text.new)) }
+    ensures { OnOk result ((σ : Meaning M) → Driven M.empty M.op σ (moment run.old) → (waits (view (moment run.new)) ≡ false) × GoesOn M.empty M.columns M.op σ (moment run.old) (string_bytes text.old) (moment run.new) (string_bytes text.new)) }
 {
     while let Ok((mask, number, cells)) = run.hand(buffer) {
         add_block_lines(text, mask as u64, number, &buffer[0..cells])?;
@@ -51,11 +51,11 @@ pub(crate) fn add_all_blocks<M: Measure, S: Source<M>>(
     source: &mut S,
     buffer: &mut [M],
 ) -> Result<(), AllocError>
-    requires tells { TellsEmpty empty columns }
-    requires driven { Driven empty op (means S.Shaped.told contents source.old) (moment run.old) }
+    requires tells { TellsEmpty M.empty M.columns }
+    requires driven { Driven M.empty M.op (means S.Shaped.told S.contents source.old) (moment run.old) }
     requires fresh { (passed (view (moment run.old)) ≡ 0) × ((view (moment run.old)).handed ≡ 0) }
     requires room { volume (S.Shaped.told source.old) ≤ length buffer.old }
-    ensures { OnOk result (Ends empty columns op (means S.Shaped.told contents source.old) (string_bytes text.old) (moment run.new) (string_bytes text.new)) }
+    ensures { OnOk result (Ends M.empty M.columns M.op (means S.Shaped.told S.contents source.old) (string_bytes text.old) (moment run.new) (string_bytes text.new)) }
 {
     for _scan in 0..source.shape().total_chunks() {
         pass_chunk(run, source);

@@ -29,8 +29,8 @@ pub(crate) fn add_first_lines<M: Measure, S: Source<M>>(
     buffer: &mut [M],
 ) -> Result<(), AllocError>
     requires { volume (S.Shaped.told source.old) ≤ length buffer.old }
-    ensures same { means S.Shaped.told contents source.new ≡ means S.Shaped.told contents source.old }
-    ensures lines { Writes result (string_bytes text.old) (string_bytes text.new) (dims_line (S.Shaped.told source.old) ++ cells_line need (unreadable_chunks (means S.Shaped.told contents source.old))) }
+    ensures same { means S.Shaped.told S.contents source.new ≡ means S.Shaped.told S.contents source.old }
+    ensures lines { Writes result (string_bytes text.old) (string_bytes text.new) (dims_line (S.Shaped.told source.old) ++ cells_line need (unreadable_chunks (means S.Shaped.told S.contents source.old))) }
 {
     add_shape_line(text, &source.shape())?;
     let unreadable = count_unreadable(source, buffer);

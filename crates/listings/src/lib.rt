@@ -1,4 +1,6 @@
 // The listing of a chunk file: its summaries as text.
+#![tactic(auto)]
+
 mod blocks;
 mod counts;
 mod driving;

@@ -1,22 +1,11 @@
 // The lines of a listing, each written behind a text. Want of memory is the only other answer.
-ghost use Rattle.std.specs.Prelude.{◌≡◌, ◌++◌, map, is_ok, IfOk, string_bytes, codes, decimal};
+ghost use Rattle.std.specs.Prelude.{◌≡◌, ◌++◌, map, IfOk, string_bytes, codes, decimal};
 ghost use Rattle.listings.specs.Lines.{spaced, dim_field, dims_line, cells_line, cell_line, end_line, refused_lines};
 ghost use Rattle.listings.specs.Making.{Writes};
 
 use measures::Measure;
 use shapes::Dim;
 use std::alloc::{AllocError, Global};
-use std::fmt;
-
-// Writing to a text fails only for want of memory.
-fn written(done: fmt::Result) -> Result<(), AllocError>
-    ensures { is_ok result ≡ is_ok done }
-{
-    match done {
-        Ok(()) => Ok(()),
-        Err(_) => Err(AllocError),
-    }
-}
 
 // A dimension as a field, behind a space.
 fn add_dim(text: &mut String, d: Dim) -> Result<(), AllocError>
@@ -24,14 +13,14 @@ fn add_dim(text: &mut String, d: Dim) -> Result<(), AllocError>
 {
     let size = d.size;
     let edge = d.edge;
-    written(write!(text, " {size}/{edge}"))
+    write!(text, " {size}/{edge}")
 }
 
 pub(crate) fn add_dims_line(text: &mut String, dims: &[Dim]) -> Result<(), AllocError>
     ensures { Writes result (string_bytes text.old) (string_bytes text.new) (dims_line dims.now) }
 {
     let n = dims.len();
-    written(write!(text, "DIMS {n}"))?;
+    write!(text, "DIMS {n}")?;
     for d in dims {
         add_dim(text, *d)?;
     }
@@ -45,19 +34,19 @@ pub(crate) fn add_cells_line(
 ) -> Result<(), AllocError>
     ensures { Writes result (string_bytes text.old) (string_bytes text.new) (cells_line need unreadable) }
 {
-    written(write!(text, "CELLS {need} UNREADABLE {unreadable}\n"))
+    write!(text, "CELLS {need} UNREADABLE {unreadable}\n")
 }
 
 // A number as a field, behind a space.
 fn add_number(text: &mut String, n: u64) -> Result<(), AllocError>
     ensures { Writes result (string_bytes text.old) (string_bytes text.new) (codes " " ++ decimal n) }
 {
-    written(write!(text, " {n}"))
+    write!(text, " {n}")
 }
 
 // The columns of a value, each behind a space.
 fn add_columns<M: Measure>(text: &mut String, value: &M) -> Result<(), AllocError>
-    ensures { Writes result (string_bytes text.old) (string_bytes text.new) (spaced (map decimal (columns value.now))) }
+    ensures { Writes result (string_bytes text.old) (string_bytes text.new) (spaced (map decimal (M.columns value.now))) }
 {
     for i in 0..M::column_count() {
         add_number(text, value.column(i))?;
@@ -73,9 +62,9 @@ pub(crate) fn add_cell_line<M: Measure>(
     offset: u64,
     value: &M,
 ) -> Result<(), AllocError>
-    ensures { Writes result (string_bytes text.old) (string_bytes text.new) (cell_line mask number offset (columns value.now)) }
+    ensures { Writes result (string_bytes text.old) (string_bytes text.new) (cell_line mask number offset (M.columns value.now)) }
 {
-    written(write!(text, "{mask} {number} {offset}"))?;
+    write!(text, "{mask} {number} {offset}")?;
     add_columns(text, value)?;
     text.push_str("\n")
 }
@@ -88,7 +77,7 @@ pub(crate) fn add_end_line(
 ) -> Result<(), AllocError>
     ensures { Writes result (string_bytes text.old) (string_bytes text.new) (end_line readable unreadable blocks) }
 {
-    written(write!(text, "END {readable} {unreadable} {blocks}\n"))
+    write!(text, "END {readable} {unreadable} {blocks}\n")
 }
 
 // The lines of a refused file.

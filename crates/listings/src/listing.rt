@@ -32,11 +32,11 @@ fn list_source<M: Measure, S: Source<M>>(
     cells: &mut [M],
     buffer: &mut [M],
 ) -> Result<String, AllocError>
-    requires tells { TellsEmpty empty columns }
+    requires tells { TellsEmpty M.empty M.columns }
     requires needs { need ≡ need_of (S.Shaped.told source.old) }
     requires enough { need_of (S.Shaped.told source.old) ≤ length cells.old }
     requires room { volume (S.Shaped.told source.old) ≤ length buffer.old }
-    ensures { IfOk result (λ s. string_bytes s ≡ summary_lines empty columns op (means S.Shaped.told contents source.old)) }
+    ensures { IfOk result (λ s. string_bytes s ≡ summary_lines M.empty M.columns M.op (means S.Shaped.told S.contents source.old)) }
 {
     let mut text = String::new(heap);
     add_first_lines(&mut text, source, need, buffer)?;
@@ -55,11 +55,11 @@ fn list_opened<M: Measure>(
     cells: &mut [M],
     buffer: &mut [M],
 ) -> Result<String, AllocError>
-    requires tells { TellsEmpty empty columns }
+    requires tells { TellsEmpty M.empty M.columns }
     requires opened { file_fault file.bytes.now ≡ None }
     requires given { length cells.old ≡ given_cells }
     requires room { length buffer.old ≡ given_cells }
-    ensures { IfOk result (λ s. string_bytes s ≡ file_listing empty columns op lifted file.entry.bytes.now) }
+    ensures { IfOk result (λ s. string_bytes s ≡ file_listing M.empty M.columns M.op M.lifted file.entry.bytes.now) }
 {
     let plan = Plan::of(&file.shape());
     if let Err(e) = plan.check(cells.len()) {
@@ -75,10 +75,10 @@ fn list_file<M: Measure>(
     cells: &mut [M],
     buffer: &mut [M],
 ) -> Result<String, AllocError>
-    requires tells { TellsEmpty empty columns }
+    requires tells { TellsEmpty M.empty M.columns }
     requires given { length cells.old ≡ given_cells }
     requires room { length buffer.old ≡ given_cells }
-    ensures { IfOk result (λ s. string_bytes s ≡ file_listing empty columns op lifted bytes.now) }
+    ensures { IfOk result (λ s. string_bytes s ≡ file_listing M.empty M.columns M.op M.lifted bytes.now) }
 {
     match ChunkFile::open(bytes) {
         Ok(file) => list_opened(heap, file, cells, buffer),

@@ -1,4 +1,6 @@
 // Measures: what a cell of a summary holds.
+#![tactic(auto)]
+
 mod measure;
 #[cfg(test)]
 mod tests;

@@ -265,7 +265,7 @@ impl Measure for Marks {
 
 /// The join of the empty value and every value of a slice.
 pub fn join_all<M: Measure>(xs: &[M]) -> M
-    ensures { result ≡ total empty op xs.now }
+    ensures { result ≡ total M.empty M.op xs.now }
 {
     let mut all = M::empty();
     for x in xs {

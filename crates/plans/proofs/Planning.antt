@@ -1,7 +1,7 @@
 -- The places, the parents and the need that code works out are the plan's.
 use Rattle.std.proofs.Common.{◌≡◌, ℕ, ◌+◌, ◌^◌, ◌<◌, ◌≤◌, List, map, length, get_or, take, sym, ap, ◌∙◌, arith}
 use Rattle.std.proofs.lemmas.List.FromFn.{get_or-map-range_with_len}
-use Rattle.std.proofs.ByRecursion.{All_from_get_or}
+use Rattle.std.proofs.ByRecursion.{All-from_get_or}
 use Rattle.std.proofs.lemmas.List.{length-take-le, get_or-take}
 use Rattle.shapes.specs.declared.dims.Dim.{Dim}
 use Rattle.shapes.specs.declared.shape.Shape.{Shape}
@@ -56,16 +56,16 @@ module _ (ds : List Dim) (few : length ds ≤ 6) (ps : List ℕ) (placed : ps �
 
 -- a shape's dimensions are within its limits
 module _ (s : Shape) where
-  dims-length : length (dims_of s) ≡ s.n
-  dims-length = length-take-le s.n s.dims (omega (arith, s.six, s.few.1))
+  dims_length : length (dims_of s) ≡ s.n
+  dims_length = length-take-le s.n s.dims (omega (arith, s.six, s.few.1))
 
   pub few_dims : length (dims_of s) ≤ 6
-  few_dims = omega (arith, dims-length, s.few.1)
+  few_dims = omega (arith, dims_length, s.few.1)
 
   pub edged_dims : Edged (dims_of s)
   edged_dims =
-      All_from_get_or (λ (d : Dim). (1 ≤ d.edge) × (d.edge ≤ d.size)) (dims_of s) none_dim
-      (λ i l. let b : i < s.n = omega (arith, dims-length) in
+      All-from_get_or (λ (d : Dim). (1 ≤ d.edge) × (d.edge ≤ d.size)) (dims_of s) none_dim
+      (λ i l. let b : i < s.n = omega (arith, dims_length) in
       let fit = s.each i b in
       rw (get_or-take s.n s.dims i none_dim b) (fit.2, fit.3))
 

@@ -1,4 +1,6 @@
 // Reads shapes from standard input, one a line, and prints for each the least number of cells that will do.
+#![tactic(auto)]
+
 use quotes::answer_line;
 use std::io;
 use std::io::{BufRead, BufReader};

@@ -1,5 +1,5 @@
 -- The need of a shape within the limits fits.
-use Rattle.std.proofs.Common.{ℕ, ◌*◌, ◌^◌, ◌≤◌, List, length, arith, pow_mono}
+use Rattle.std.proofs.Common.{◌^◌, ◌≤◌, List, length, arith, pow_mono}
 use Rattle.std.proofs.lemmas.Nat.{mul-le}
 use Rattle.shapes.specs.declared.dims.Dim.{Dim}
 use Rattle.shapes.specs.Arrays.{extent}

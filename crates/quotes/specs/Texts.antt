@@ -1,5 +1,5 @@
 -- What is told of a line of a price list. Assumes nothing.
-use Rattle.std.specs.Prelude.{ℕ, ◌*◌, cond, List, [], ◌∷◌, ◌++◌, length, Some, None, codes, decimal, Option, nat_le, slice_index}
+use Rattle.std.specs.Prelude.{ℕ, ◌*◌, cond, List, ◌++◌, length, Some, None, codes, decimal, Option, nat_le, slice_index}
 use Rattle.std.specs.List.{flat_map}
 use Rattle.shapes.specs.declared.dims.Dim.{Dim}
 use Rattle.shapes.specs.Limits.{Refusal, shape_fault}

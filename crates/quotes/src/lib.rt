@@ -1,4 +1,6 @@
 // Quotes of a price list: for each line that names a shape, the least number of cells that will do.
+#![tactic(auto)]
+
 mod answers;
 mod lines;
 #[cfg(test)]

@@ -10,7 +10,7 @@ use Rattle.shapes.proofs.Numbering.{below_length, below_getD, digits_below, leng
 use Rattle.measures.specs.Laws.{Lawful}
 use Rattle.sources.specs.Meanings.{Chunk}
 use Rattle.cubes.specs.Meanings.{meaning}
-use Rattle.cubes.specs.Summaries.{Divided, big, direct, block}
+use Rattle.cubes.specs.Summaries.{Divided, big, block}
 use Rattle.cubes.proofs.Cells.{length-radix, below_counts, below_edges, cell_below, chunk_of_cell, cleared_below}
 use Rattle.cubes.proofs.Joins.{join_empty, big_cong, big_none}
 use Rattle.cubes.proofs.Blocks.{length_block, getD_block}
@@ -19,12 +19,12 @@ use Rattle.runs.specs.declared.layouts.Region.{Region}
 use Rattle.runs.specs.Boxes.{dot, joined_at, Positive}
 use Rattle.runs.specs.Layouts.{region_radix, region_radices, cell_number}
 use Rattle.runs.specs.Contents.{CompleteBlock}
-use Rattle.runs.specs.Grids.{radix_at, strides_in, start_of, Narrow, block_edges, Inside, ApartUnder, block_cells, block_joined, Laid_out, RegionOf}
+use Rattle.runs.specs.Grids.{radix_at, strides_in, start_of, Narrow, block_edges, Inside, ApartUnder, block_cells, block_joined, LaidOut, RegionOf}
 use Rattle.runs.proofs.CellNumbers.{product_counting, cell_number_below, edge_positive}
 use Rattle.runs.proofs.Padding.{digits_pad, product_pad, below_pad, block_edges_are, block_cell_at, cells_before_in, radix_out}
 
 -- the radices of a region that stands below 2 ^ 64 multiply within a machine word
-module _ (ds : List Dim) (place : ℕ → ℕ) (divided : Divided ds) (y : Layout) (laid : Laid_out ds place y) (k : Group) (lk : length k ≡ length ds) (base p : ℕ) (u : Region) (of : RegionOf ds k base p u) where
+module _ (ds : List Dim) (place : ℕ → ℕ) (divided : Divided ds) (y : Layout) (laid : LaidOut ds place y) (k : Group) (lk : length k ≡ length ds) (base p : ℕ) (u : Region) (of : RegionOf ds k base p u) where
   radix_positive : (i : ℕ) → i < length ds → 0 < region_radix ds place k p i
   radix_positive i l = by (keeps k i) (ltb (place i) p)
     where
@@ -72,7 +72,7 @@ module _ (ds : List Dim) (place : ℕ → ℕ) (divided : Divided ds) (y : Layou
           let e : length ds + (i - length ds) ≡ i = omega arith in
           omega (arith, ap (big 1 ◌*◌ (radix_at y u)) e, outer (i - length ds) (omega arith), inner (length ds) (omega arith))
 
-module _ (ds : List Dim) (place : ℕ → ℕ) (divided : Divided ds) (y : Layout) (laid : Laid_out ds place y) (g : Group) (lg : length g ≡ length ds) (c c6 : List ℕ) (below_c : Below (radix g (counts ds)) c) (padded : c6 ≡ six 0 c) where
+module _ (ds : List Dim) (place : ℕ → ℕ) (divided : Divided ds) (y : Layout) (laid : LaidOut ds place y) (g : Group) (lg : length g ≡ length ds) (c c6 : List ℕ) (below_c : Below (radix g (counts ds)) c) (padded : c6 ≡ six 0 c) where
   counts_c : Below (counts ds) c
   counts_c = below_counts ds g c divided lg below_c
 

@@ -15,7 +15,7 @@ use Rattle.runs.specs.declared.layouts.Layout.{Layout}
 use Rattle.runs.specs.declared.layouts.Region.{Region}
 use Rattle.runs.specs.Boxes.{emptied, joined_at, Positive}
 use Rattle.runs.specs.Layouts.{lacked_place, mask_cells, mask_base, standing}
-use Rattle.runs.specs.Grids.{block_edges, cells_in, strides_in, start_of, Narrow, Inside, ApartUnder, block_cells, block_joined, Laid_out, RegionOf, region_at, Bases}
+use Rattle.runs.specs.Grids.{block_edges, cells_in, strides_in, start_of, Narrow, Inside, ApartUnder, block_cells, block_joined, LaidOut, RegionOf, region_at, Bases}
 use Rattle.runs.specs.Contents.{CompleteBlock, SameRegion, EmptyRegion}
 use Rattle.runs.proofs.RegionBases.{region_within, regions_apart}
 use Rattle.runs.proofs.BlockCells.{positive, block_edges_product, inside, disjoint, written_direct, joins_keep}
@@ -46,7 +46,7 @@ module _ {M : Type 0} (empty : M) (s : List M) (b n : ℕ) (fits : b + n ≤ len
       back = omega arith
 
 -- the layout and the bases of a run: a table has by mask the dimension that the parent of a group adds
-module _ (ds : List Dim) (place : ℕ → ℕ) (adds : Group → ℕ) (divided : Divided ds) (y : Layout) (laid : Laid_out ds place y) (table : List ℕ) (root : ℕ)
+module _ (ds : List Dim) (place : ℕ → ℕ) (adds : Group → ℕ) (divided : Divided ds) (y : Layout) (laid : LaidOut ds place y) (table : List ℕ) (root : ℕ)
     (is_root : root + 1 ≡ 2 ^ length ds) (adding : (m : ℕ) → m < root → (get_or table m 0 ≡ adds (group (length ds) m)) × (get_or table m 0 < length ds))
     (bases : List ℕ) (based : Bases y table root (volume ds) bases) where
   -- the region of the mask m

@@ -19,7 +19,7 @@ use Rattle.cubes.proofs.Groups.{mask-set}
 use Rattle.runs.specs.declared.layouts.Layout.{Layout}
 use Rattle.runs.specs.declared.layouts.Region.{Region}
 use Rattle.runs.specs.Layouts.{lacked_place, mask_cells, mask_base, cell_number}
-use Rattle.runs.specs.Grids.{block_joined, Joinable, Laid_out, Bases, region_by, child_at, children_joined}
+use Rattle.runs.specs.Grids.{block_joined, Joinable, LaidOut, Bases, region_by, child_at, children_joined}
 use Rattle.runs.specs.Contents.{SameRegion}
 use Rattle.runs.proofs.RegionBases.{region_within}
 use Rattle.runs.proofs.BlockCells.{joins_at, reached_below}
@@ -27,7 +27,7 @@ use Rattle.runs.proofs.BlockSteps.{region_here, block_inside, block_apart, lengt
 use Rattle.runs.proofs.Children.{kept_power, child_kept, child_adds}
 use Rattle.runs.proofs.Padding.{group_pad}
 
-module _ (ds : List Dim) (place : ℕ → ℕ) (adds : Group → ℕ) (divided : Divided ds) (y : Layout) (laid : Laid_out ds place y) (table : List ℕ) (root : ℕ)
+module _ (ds : List Dim) (place : ℕ → ℕ) (adds : Group → ℕ) (divided : Divided ds) (y : Layout) (laid : LaidOut ds place y) (table : List ℕ) (root : ℕ)
     (is_root : root + 1 ≡ 2 ^ length ds) (adding : (m : ℕ) → m < root → (get_or table m 0 ≡ adds (group (length ds) m)) × (get_or table m 0 < length ds))
     (bases : List ℕ) (based : Bases y table root (volume ds) bases) (p : ℕ) (lp : p ≤ root) where
   abbrev n : ℕ

@@ -2,7 +2,7 @@
 use Rattle.std.proofs.Common.{◌≡◌, ℕ, ◌+◌, ◌-◌, ◌%◌, ◌^◌, ◌<◌, ◌≤◌, true, false, cond, eqb, ◌⊎◌, List, get_or, sym, ap, ◌∙◌, subst, inl, inr, add-one}
 use native.Mathlib.Nat.{div-eq_of_lt}
 use Rattle.std.proofs.lemmas.Bool.{cases_lt, both_ways, eqb-true, and_parts}
-use Rattle.shapes.specs.Arrays.{product, keeps, group}
+use Rattle.shapes.specs.Arrays.{product, group}
 use Rattle.shapes.proofs.Masks.{keeps_bit}
 use Rattle.runs.specs.declared.layouts.Layout.{Layout}
 use Rattle.runs.specs.declared.layouts.Region.{Region}

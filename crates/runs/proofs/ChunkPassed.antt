@@ -1,11 +1,11 @@
 -- What the cells hold at the start, and after a chunk was passed.
-use Rattle.std.proofs.Common.{◌≡◌, ℕ, suc, ◌+◌, ◌-◌, ◌^◌, ◌<◌, ◌≤◌, true, false, ltb, List, ◌++◌, length, drop, replicate, sym, refl, ap, ◌∙◌, subst, zero-add, arith}
+use Rattle.std.proofs.Common.{◌≡◌, ℕ, suc, ◌+◌, ◌-◌, ◌^◌, ◌<◌, ◌≤◌, true, List, ◌++◌, length, drop, replicate, sym, ap, ◌∙◌, subst, zero-add, arith}
 use Rattle.std.specs.List.{ContainsAt as Has}
 use Rattle.std.proofs.lemmas.List.{length-map, length-replicate}
 use Rattle.std.proofs.lemmas.Nat.{pow_pos}
 use Rattle.std.proofs.lemmas.Bool.{ltb-true, ltb-false}
 use Rattle.shapes.specs.declared.dims.Dim.{Dim}
-use Rattle.shapes.specs.Arrays.{Group, Below, volume, counts, chunks, total_chunks, group, groups, root}
+use Rattle.shapes.specs.Arrays.{Below, volume, counts, chunks, total_chunks, group, groups, root}
 use Rattle.shapes.specs.Limits.{Limits}
 use Rattle.shapes.proofs.Masks.{length-group}
 use Rattle.measures.specs.Laws.{Lawful}

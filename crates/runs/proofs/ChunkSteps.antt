@@ -1,14 +1,13 @@
 -- A take and a skip, from what was answered and fetched to what is said of them.
-use Rattle.std.proofs.Common.{◌≡◌, ℕ, ◌+◌, ◌-◌, ◌^◌, ◌<◌, ◌≤◌, Bool, true, false, cond, ◌&&◌, eqb, ltb, ◌⊎◌, List, [], ◌∷◌, ◌++◌, length, get_or, drop, replicate, is_ok, Ok, Err, Result, sym, refl, ap, ◌∙◌, subst, ap₂, inl, inr, add-zero, arith}
+use Rattle.std.proofs.Common.{◌≡◌, ℕ, ◌+◌, ◌-◌, ◌<◌, ◌≤◌, Bool, true, false, cond, ◌⊎◌, List, ◌++◌, length, get_or, drop, replicate, is_ok, Ok, Err, Result, sym, refl, ap, ◌∙◌, subst, ap₂, inl, inr, add-zero, arith}
 use Rattle.std.proofs.lemmas.List.{length-append, length-drop, length-replicate, drop_at, drop-drop}
-use Rattle.std.proofs.lemmas.Bool.{and_parts, cases_lt, both_ways, false≢true, true≢false, ltb-false, lt-ltb, eq-eqb, eqb-true, eqb-false}
+use Rattle.std.proofs.lemmas.Bool.{cases_lt, both_ways, false≢true, true≢false, ltb-false, lt-ltb}
 use Rattle.shapes.specs.declared.dims.Dim.{Dim}
 use Rattle.shapes.specs.Arrays.{volume, counts, total_chunks}
 use Rattle.shapes.specs.Views.{dims_of}
 use Rattle.shapes.proofs.Held.{limits}
 use Rattle.shapes.proofs.Numbering.{number_below}
 use Rattle.measures.specs.Laws.{Lawful}
-use Rattle.sources.specs.declared.refusals.SourceRefusal.{SourceRefusal}
 use Rattle.sources.specs.declared.refusals.SourceRefusal.TheVariants.{Unreadable}
 use Rattle.sources.specs.Meanings.{Chunk, values, faulty, Meaning, Sized, sized_chunk, read_answer, cells_of}
 use Rattle.cubes.specs.Meanings.{is_readable}
@@ -17,7 +16,7 @@ use Rattle.runs.specs.declared.refusals.RunRefusal.TheVariants.{TooFew, BlockWai
 use Rattle.runs.specs.declared.refusals.RunRefusal.TheVariants as run
 use Rattle.runs.specs.Boxes.{emptied}
 use Rattle.runs.specs.Planned.{places_of, adds_of, need_of, released_after, scanned_chunk, scanned_storage}
-use Rattle.runs.specs.Answers.{View, passed, waits, too_few, same_dims, next_chunk, then-chunk, take_read, skip_read}
+use Rattle.runs.specs.Answers.{View, passed, waits, next_chunk, then_chunk, take_read, skip_read}
 use Rattle.runs.specs.Holdings.{Moment, moment_of, dims_in, state_view, view, root_mask, RootEmpty, OthersStay, Clean, Represents}
 use Rattle.runs.specs.Calls.{PastStay, Fetches, Takes, Skips}
 use Rattle.runs.specs.Steps.{PassesOn}
@@ -183,7 +182,7 @@ module _ {M : Type 0} (empty : M) (op : M → M → M) (σ : Meaning M) (b : Mom
 
   pub takes_nothing : (e : RunRefusal) → next_chunk (view b) σ.dims ≡ Err e → Takes empty op σ b (Err e) b
   takes_nothing e is = record {
-    answers = sym (ap (λ r. then-chunk r (λ k. take_read (passed (view b)) k (σ.chunk k))) is);
+    answers = sym (ap (λ r. then_chunk r (λ k. take_read (passed (view b)) k (σ.chunk k))) is);
     counts = refl;
     fetches = nothing_fetched e is;
     represents = λ _ _ r. r;
@@ -191,7 +190,7 @@ module _ {M : Type 0} (empty : M) (op : M → M → M) (σ : Meaning M) (b : Mom
 
   pub skips_nothing : (e : RunRefusal) → next_chunk (view b) σ.dims ≡ Err e → Skips empty op σ b (Err e) b
   skips_nothing e is = record {
-    answers = sym (ap (λ r. then-chunk r (λ k. skip_read (σ.chunk k))) is);
+    answers = sym (ap (λ r. then_chunk r (λ k. skip_read (σ.chunk k))) is);
     counts = refl;
     fetches = nothing_fetched e is;
     represents = λ _ _ r. r;
@@ -245,7 +244,7 @@ module _ {M : Type 0} (empty : M) (op : M → M → M) (σ : Meaning M) (b : Mom
     pub takes_chunk : (a : Moment M) → is_readable (σ.chunk k) ≡ true → a.cells ≡ cells_of empty (volume σ.dims) (σ.chunk k) ++ drop (volume σ.dims) b.cells
         → PassesOn 1 0 b.state a.state → Takes empty op σ b (Ok tt) a
     takes_chunk a read cells on = record {
-      answers = sym (ap (λ r. then-chunk r (λ k. take_read (passed (view b)) k (σ.chunk k))) found ∙ take_of_read (passed (view b)) k (σ.chunk k) read);
+      answers = sym (ap (λ r. then_chunk r (λ k. take_read (passed (view b)) k (σ.chunk k))) found ∙ take_of_read (passed (view b)) k (σ.chunk k) read);
       counts = view_after a 1 0 refl on (ap length here ∙ fetched_length empty b σ.dims k is (cells_of empty v (σ.chunk k)) long) ∙ ap (λ s. record { dims = dims_in b; lent = length b.cells; taken = b.state.taken + 1; skipped = s; handed = b.state.control.handed }) (add-zero b.state.skipped);
       fetches = passes empty b σ.dims k is (cells_of empty v (σ.chunk k)) long a 1 0 refl on here;
       represents = λ τ agree r.
@@ -260,7 +259,7 @@ module _ {M : Type 0} (empty : M) (op : M → M → M) (σ : Meaning M) (b : Mom
         → ys ≡ cells_of empty (volume σ.dims) (σ.chunk k) ++ drop (volume σ.dims) b.cells
         → Takes empty op σ b (Err (run.Unreadable scan chunk entry cause)) (moment_of b.state ys)
     takes_fault ys scan chunk entry cause at read cells = record {
-      answers = sym (ap (λ r. then-chunk r (λ k. take_read (passed (view b)) k (σ.chunk k))) found ∙ take_of_fault (passed (view b)) k (σ.chunk k) chunk entry cause read ∙ ap (λ s. Err (run.Unreadable s chunk entry cause)) (sym at));
+      answers = sym (ap (λ r. then_chunk r (λ k. take_read (passed (view b)) k (σ.chunk k))) found ∙ take_of_fault (passed (view b)) k (σ.chunk k) chunk entry cause read ∙ ap (λ s. Err (run.Unreadable s chunk entry cause)) (sym at));
       counts = refuses_view empty b σ.dims k is ys here;
       fetches = refuses empty b σ.dims k is ys here;
       represents = λ τ _ r. refuses_represents empty b σ.dims k is ys here op τ r;
@@ -273,7 +272,7 @@ module _ {M : Type 0} (empty : M) (op : M → M → M) (σ : Meaning M) (b : Mom
         → a.cells ≡ cells_of empty (volume σ.dims) (σ.chunk k) ++ drop (volume σ.dims) b.cells
         → PassesOn 0 1 b.state a.state → Skips empty op σ b (Ok tt) a
     skips_chunk a read cells on = record {
-      answers = sym (ap (λ r. then-chunk r (λ k. skip_read (σ.chunk k))) found ∙ skip_of (σ.chunk k) false read);
+      answers = sym (ap (λ r. then_chunk r (λ k. skip_read (σ.chunk k))) found ∙ skip_of (σ.chunk k) false read);
       counts = view_after a 0 1 refl on (ap length here ∙ fetched_length empty b σ.dims k is (replicate v empty) (length-replicate v empty)) ∙ ap (λ s. record { dims = dims_in b; lent = length b.cells; taken = s; skipped = b.state.skipped + 1; handed = b.state.control.handed }) (add-zero b.state.taken);
       fetches = passes empty b σ.dims k is (replicate v empty) (length-replicate v empty) a 0 1 refl on here;
       represents = λ τ gone r.
@@ -287,7 +286,7 @@ module _ {M : Type 0} (empty : M) (op : M → M → M) (σ : Meaning M) (b : Mom
     pub skips_readable : (xs ys : List M) → is_readable (σ.chunk k) ≡ true → xs ≡ cells_of empty (volume σ.dims) (σ.chunk k) ++ drop (volume σ.dims) b.cells
         → ys ≡ emptied empty xs 0 (volume σ.dims) → Skips empty op σ b (Err run.Readable) (moment_of b.state ys)
     skips_readable xs ys read fetched cells = record {
-      answers = sym (ap (λ r. then-chunk r (λ k. skip_read (σ.chunk k))) found ∙ skip_of (σ.chunk k) true read);
+      answers = sym (ap (λ r. then_chunk r (λ k. skip_read (σ.chunk k))) found ∙ skip_of (σ.chunk k) true read);
       counts = refuses_view empty b σ.dims k is ys here;
       fetches = refuses empty b σ.dims k is ys here;
       represents = λ τ _ r. refuses_represents empty b σ.dims k is ys here op τ r;

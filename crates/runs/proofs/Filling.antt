@@ -1,7 +1,7 @@
 -- Six radices and six digits: those of a group, of a scan number, and their number.
 use Rattle.std.proofs.Common.{◌≡◌, ℕ, zero, suc, ◌+◌, ◌*◌, ◌/◌, ◌%◌, ◌^◌, ◌<◌, ◌≤◌, true, false, cond, eqb, ltb, List, [], ◌∷◌, ◌++◌, length, get_or, take, set, replicate, sym, refl, ap, ◌∙◌, subst, arith}
 use Rattle.std.proofs.lemmas.List.{length-take-le, get_or-take, get_or_default, take_all}
-use Rattle.std.proofs.ByRecursion.{All_from_get_or}
+use Rattle.std.proofs.ByRecursion.{All-from_get_or}
 use Rattle.std.proofs.lemmas.List.FromFn.{length-map-range_with_len, get_or-map-range_with_len}
 use Rattle.std.proofs.lemmas.Nat.{mul-le}
 use Rattle.std.proofs.lemmas.Bool.{lt-ltb, and_from}
@@ -122,7 +122,7 @@ module _ (n : ℕ) (rs : List ℕ) (c : Countable n rs) (long : length rs ≡ 6)
   multiplied_small i = omega (
     arith,
     c.small,
-    product_take_le (take n rs) i (All_from_get_or (λ k. 1 ≤ k) (take n rs) 1 (λ j l. let b : j < n = omega (arith, front) in
+    product_take_le (take n rs) i (All-from_get_or (λ k. 1 ≤ k) (take n rs) 1 (λ j l. let b : j < n = omega (arith, front) in
         subst (λ k. 1 ≤ k) (sym (get_or-take n rs j 1 b)) (c.some j b))),
   )
 

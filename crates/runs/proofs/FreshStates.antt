@@ -14,7 +14,7 @@ use Rattle.runs.specs.declared.tree.Tree.{Tree}
 use Rattle.runs.specs.declared.control.Control.{Control}
 use Rattle.runs.specs.Trees.{Grown, adds_in}
 use Rattle.runs.specs.Controls.{Controls, Starts}
-use Rattle.runs.specs.Grids.{Laid_out, Narrow, Bases, region_at, cells_below}
+use Rattle.runs.specs.Grids.{LaidOut, Narrow, Bases, region_at, cells_below}
 use Rattle.runs.specs.Layouts.{mask_base}
 use Rattle.runs.specs.Planned.{places_of, adds_of, need_of}
 use Rattle.runs.proofs.FromShape.{shape_divided}
@@ -37,7 +37,7 @@ module _ (shape : Shape) (p : Plan) (planned : Planned (dims_of shape) p) where
     pub order_in : Order ds (place_in places)
     order_in = subst (λ xs. Order ds (place_in xs)) (sym placed) (planned_order ds (limits shape) (planned_least ds (limits shape)) p planned)
 
-    pub laid_from : (y : Layout) → Laid_out ds (place_in places) y → Laid_out ds (places_of ds) y
+    pub laid_from : (y : Layout) → LaidOut ds (place_in places) y → LaidOut ds (places_of ds) y
     unfolding places_of
     laid_from y laid = record {
       few = laid.few;
@@ -61,7 +61,7 @@ module _ (shape : Shape) (p : Plan) (planned : Planned (dims_of shape) p) where
     adds_are m l = ap (λ xs. get_or xs m 0) added ∙ planned.adding m l
 
     -- the table of bases, up to the root's mask
-    module _ (root : ℕ) (is_root : root + 1 ≡ 2 ^ length ds) (y : Layout) (laid : Laid_out ds (places_of ds) y) where
+    module _ (root : ℕ) (is_root : root + 1 ≡ 2 ^ length ds) (y : Layout) (laid : LaidOut ds (places_of ds) y) where
       adding : (m : ℕ) → m < root → (get_or adds m 0 ≡ adds_of ds (group (length ds) m)) × (get_or adds m 0 < length ds)
       adding m l =
           let other : m + 1 < 2 ^ length ds = omega arith in
@@ -88,7 +88,7 @@ module _ (shape : Shape) (p : Plan) (planned : Planned (dims_of shape) p) where
           (subst (λ v. Bases y adds root v bases) e based) m (omega arith)
 
 -- the state made of them
-module _ (shape : Shape) (p : Plan) (planned : Planned (dims_of shape) p) (y : Layout) (laid : Laid_out (dims_of shape) (places_of (dims_of shape)) y) (bases : List ℕ)
+module _ (shape : Shape) (p : Plan) (planned : Planned (dims_of shape) p) (y : Layout) (laid : LaidOut (dims_of shape) (places_of (dims_of shape)) y) (bases : List ℕ)
     (starts : (m : ℕ) → m < 2 ^ length (dims_of shape) → get_or bases m 0 ≡ mask_base (dims_of shape) (places_of (dims_of shape)) (adds_of (dims_of shape)) m)
     (all_bases : length bases ≡ 64) (needed : ℕ) (is_need : needed ≡ p.need) (t : Tree) (grown : Grown (dims_of shape) (places_of (dims_of shape)) (adds_of (dims_of shape)) t)
     (all_adds : length t.adds ≡ 64) (k : Control) (begins : Starts t k) where

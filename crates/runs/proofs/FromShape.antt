@@ -1,5 +1,5 @@
 -- What a shape gives: its dimensions are divided, and what every plan needs fits.
-use Rattle.std.proofs.Common.{◌≡◌, ℕ, ◌*◌, ◌^◌, ◌<◌, ◌≤◌, List, [], ◌∷◌, length, mul-le-mul_right, mul-le-mul_left, arith, pow_mono}
+use Rattle.std.proofs.Common.{ℕ, ◌^◌, ◌≤◌, List, [], ◌∷◌, length, mul-le-mul_right, arith, pow_mono}
 use Rattle.std.specs.List.{AllByRecursion as All}
 use Rattle.shapes.specs.declared.dims.Dim.{Dim}
 use Rattle.shapes.specs.declared.shape.Shape.{Shape}

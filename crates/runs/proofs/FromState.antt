@@ -1,5 +1,5 @@
 -- What the facts of a run's state say: the control is that of the plan's scan, and the layout and the bases are those of its regions.
-use Rattle.std.proofs.Common.{◌≡◌, ℕ, ◌+◌, ◌-◌, ◌^◌, ◌<◌, List, length, get_or, sym, ◌∙◌, arith}
+use Rattle.std.proofs.Common.{◌≡◌, ℕ, ◌+◌, ◌-◌, ◌^◌, ◌<◌, List, length, get_or, ◌∙◌, arith}
 use Rattle.std.proofs.lemmas.Nat.{pow_pos}
 use Rattle.shapes.specs.declared.dims.Dim.{Dim}
 use Rattle.shapes.specs.Arrays.{volume, group}
@@ -9,8 +9,7 @@ use Rattle.cubes.specs.Summaries.{Divided}
 use Rattle.runs.specs.declared.state.State.{State}
 use Rattle.runs.specs.Trees.{Grown, IsGrown}
 use Rattle.runs.specs.Controls.{Controls, IsControlled}
-use Rattle.runs.specs.Layouts.{mask_base}
-use Rattle.runs.specs.Grids.{Laid_out, Bases, cells_below}
+use Rattle.runs.specs.Grids.{LaidOut, Bases}
 use Rattle.runs.specs.Planned.{places_of, adds_of}
 use Rattle.runs.proofs.FromShape.{shape_divided}
 use Rattle.runs.proofs.Growing.{lacked}
@@ -63,7 +62,7 @@ module _ (s : State) where
   pub is_grown : IsGrown s.control.tree
   is_grown = record { dims = ds; place = places_of ds; adds = adds_of ds; grown = grown_in }
 
-  pub laid_in : Laid_out ds (places_of ds) s.layout
+  pub laid_in : LaidOut ds (places_of ds) s.layout
   laid_in = record { few = (limits s.shape).few_dims; sized = s.sizes; edged = s.edges; placed = s.places }
 
   pub top_is : top + 1 ≡ 2 ^ length ds

@@ -12,13 +12,13 @@ use Rattle.sources.specs.Meanings.{Meaning}
 use Rattle.plans.specs.Plans.{need}
 use Rattle.cubes.specs.Summaries.{Divided}
 use Rattle.cubes.specs.Handing.{Block, Scan, parent, handing}
-use Rattle.cubes.specs.Turns.{next_group, regions_over, in-release}
+use Rattle.cubes.specs.Turns.{next_group, regions_over, in_release}
 use Rattle.cubes.proofs.Groups.{groups_have, not_root_of, mask_back}
 use Rattle.cubes.proofs.Trees.{is_child, lacks_keeps}
 use Rattle.cubes.proofs.Complete.{of_a_group}
 use Rattle.cubes.proofs.HandSteps.{between_hands}
 use Rattle.runs.specs.declared.layouts.Layout.{Layout}
-use Rattle.runs.specs.Grids.{Laid_out, Bases, region_by, children_joined}
+use Rattle.runs.specs.Grids.{LaidOut, Bases, region_by, children_joined}
 use Rattle.runs.specs.Layouts.{standing}
 use Rattle.runs.specs.Contents.{CompleteBlock, RegionHeld, SameRegion, EmptyRegion}
 use Rattle.runs.proofs.RegionBases.{region_within}
@@ -27,7 +27,7 @@ use Rattle.runs.proofs.BlockSteps.{region_here}
 use Rattle.runs.proofs.ChildSteps.{child_joined, other_kept}
 
 module _ {M : Type 0} (empty : M) (op : M → M → M) (lawful : Lawful empty op) (σ : Meaning M) (place : ℕ → ℕ) (adds : Group → ℕ) (divided : Divided σ.dims)
-    (S : Scan σ.dims place adds (groups (length σ.dims))) (y : Layout) (laid : Laid_out σ.dims place y) (table : List ℕ) (root : ℕ)
+    (S : Scan σ.dims place adds (groups (length σ.dims))) (y : Layout) (laid : LaidOut σ.dims place y) (table : List ℕ) (root : ℕ)
     (is_root : root + 1 ≡ 2 ^ length σ.dims)
     (adding : (m : ℕ) → m < root → (get_or table m 0 ≡ adds (group (length σ.dims) m)) × (get_or table m 0 < length σ.dims))
     (bases : List ℕ) (based : Bases y table root (volume σ.dims) bases) where
@@ -49,7 +49,7 @@ module _ {M : Type 0} (empty : M) (op : M → M → M) (lawful : Lawful empty op
   -- a turn goes on or ends
   turn : (m i : ℕ) → m < root → i < length (handing ds place adds all)
       → (regions_over ds place adds all (group n m) (i + 1) ≡ regions_over ds place adds all (group n m) i) ⊎ (regions_over ds place adds all (group n m) (i + 1) ≡ regions_over ds place adds all (group n m) i + 1)
-  turn m i l li = by (in-release ds adds (group n m) (next_group ds place adds all i) && not (in-release ds adds (group n m) (next_group ds place adds all (i + 1))))
+  turn m i l li = by (in_release ds adds (group n m) (next_group ds place adds all i) && not (in_release ds adds (group n m) (next_group ds place adds all (i + 1))))
       ((between_hands empty op lawful σ place adds all divided S (group n m) (has m) (not_root_of n m (omega arith))).turns.ends i li)
     where
       over : ℕ

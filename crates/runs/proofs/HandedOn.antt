@@ -1,5 +1,5 @@
 -- A block handed out: it is written as the direct summaries, and every meaning that was represented is represented afterwards.
-use Rattle.std.proofs.Common.{◌≡◌, ℕ, zero, suc, ◌+◌, ◌-◌, ◌^◌, ◌<◌, ◌≤◌, Bool, true, false, cond, not, ◌&&◌, ltb, ◌⊎◌, List, length, get_or, take, drop, Some, None, Option, sym, refl, ap, ◌∙◌, subst, ap₂, inr, ⊎_elim, arith}
+use Rattle.std.proofs.Common.{◌≡◌, ℕ, zero, suc, ◌+◌, ◌-◌, ◌^◌, ◌<◌, ◌≤◌, Bool, true, false, cond, not, ◌&&◌, ltb, List, length, get_or, take, drop, Some, None, Option, sym, refl, ap, ◌∙◌, subst, ap₂, inr, ⊎_elim, arith}
 use Rattle.std.proofs.lemmas.List.{get_or_default, get_or_past, get_or-drop, length-drop, ext_get_or}
 use Rattle.std.proofs.lemmas.Bool.{cases_lt, lt-ltb, le-ltb}
 use Rattle.shapes.specs.declared.dims.Dim.{Dim}
@@ -14,7 +14,7 @@ use Rattle.plans.specs.Plans.{need}
 use Rattle.cubes.specs.Summaries.{Divided, block}
 use Rattle.cubes.specs.Scans.{scan_digits}
 use Rattle.cubes.specs.Handing.{Scan, released, handing, tally}
-use Rattle.cubes.specs.Turns.{next_group, regions_over, in-release}
+use Rattle.cubes.specs.Turns.{next_group, regions_over, in_release}
 use Rattle.cubes.specs.Progress.{IsNext}
 use Rattle.cubes.proofs.Groups.{groups_have, root_of, not_root_of}
 use Rattle.cubes.proofs.Trees.{radix_root_counts}
@@ -25,10 +25,10 @@ use Rattle.runs.specs.declared.state.State.{State}
 use Rattle.runs.specs.declared.steps.NextBlock.{NextBlock}
 use Rattle.runs.specs.Controls.{Controls}
 use Rattle.runs.specs.Layouts.{standing}
-use Rattle.runs.specs.Grids.{Laid_out, Bases, region_by, child_at, block_cells, block_joined, children_joined}
+use Rattle.runs.specs.Grids.{LaidOut, Bases, region_by, child_at, block_cells, block_joined, children_joined}
 use Rattle.runs.specs.Contents.{CompleteBlock, SameRegion, EmptyRegion}
 use Rattle.runs.specs.Planned.{places_of, adds_of, need_of, scanned_chunk, released_after, none_block}
-use Rattle.runs.specs.Answers.{passed, waits}
+use Rattle.runs.specs.Answers.{passed}
 use Rattle.runs.specs.Holdings.{Moment, dims_in, view, root_mask, Clean, Represents}
 use Rattle.runs.specs.Steps.{IsNextBlock}
 use Rattle.runs.specs.Calls.{PastStay, next_block}
@@ -45,7 +45,7 @@ use Rattle.runs.proofs.Holding.{Holds, holds_of, represents_of, of_shape, root_e
 use Rattle.runs.proofs.NextReleases.{of_release_is, release_root, next_release, root_count}
 
 -- a block joined into the regions of all children leaves the cells past the need
-module _ (ds : List Dim) (place : ℕ → ℕ) (adds : Group → ℕ) (divided : Divided ds) (y : Layout) (laid : Laid_out ds place y) (table : List ℕ) (root : ℕ)
+module _ (ds : List Dim) (place : ℕ → ℕ) (adds : Group → ℕ) (divided : Divided ds) (y : Layout) (laid : LaidOut ds place y) (table : List ℕ) (root : ℕ)
     (is_root : root + 1 ≡ 2 ^ length ds) (adding : (m : ℕ) → m < root → (get_or table m 0 ≡ adds (group (length ds) m)) × (get_or table m 0 < length ds))
     (bases : List ℕ) (based : Bases y table root (volume ds) bases) (p : ℕ) (lp : p ≤ root) (c : List ℕ) (below_c : Below (radix (group (length ds) p) (counts ds)) c)
     {M : Type 0} (empty : M) (op : M → M → M) (lawful : Lawful empty op) (mean : ℕ → Chunk M) (s : List M) (enough : need ds place adds ≤ length s) where
@@ -212,10 +212,10 @@ module _ {M : Type 0} (empty : M) (op : M → M → M) (lawful : Lawful empty op
 
     -- a turn ends exactly where a release is over
     over_is : (m : ℕ) → m < top
-        → release_over ds adds p a.state.control.next m ≡ (in-release ds adds (group n m) (next_group ds place adds all i) && not (in-release ds adds (group n m) (next_group ds place adds all (i + 1))))
+        → release_over ds adds p a.state.control.next m ≡ (in_release ds adds (group n m) (next_group ds place adds all i) && not (in_release ds adds (group n m) (next_group ds place adds all (i + 1))))
     over_is m l = ap₂ (λ u v. u && not v)
-        (of_release_is ds adds m p ∙ ap (in-release ds adds (group n m)) (sym (is_now.2 none_block)))
-        (sym (next_release ds place adds a.state.control ctl_after m (omega (arith, top_is s))) ∙ ap (λ k. in-release ds adds (group n m) (next_group ds place adds all k)) on.goes_on.handed)
+        (of_release_is ds adds m p ∙ ap (in_release ds adds (group n m)) (sym (is_now.2 none_block)))
+        (sym (next_release ds place adds a.state.control ctl_after m (omega (arith, top_is s))) ∙ ap (λ k. in_release ds adds (group n m) (next_group ds place adds all k)) on.goes_on.handed)
 
     ends : (f : ℕ → Chunk M) (m : ℕ) → m < top
         → regions_over ds place adds all (group n m) (i + 1) ≡ regions_over ds place adds all (group n m) i + cond (release_over ds adds p a.state.control.next m) 1 0

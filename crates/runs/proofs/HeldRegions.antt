@@ -24,9 +24,8 @@ use Rattle.cubes.proofs.RegionTurns.{share_is, period_is}
 use Rattle.cubes.proofs.HandSteps.{between_hands}
 use Rattle.runs.specs.declared.layouts.Layout.{Layout}
 use Rattle.runs.specs.declared.layouts.Region.{Region}
-use Rattle.runs.specs.Boxes.{emptied}
 use Rattle.runs.specs.Layouts.{lacked_place, mask_cells, mask_base, standing, cell_number}
-use Rattle.runs.specs.Grids.{block_joined, Laid_out, RegionOf}
+use Rattle.runs.specs.Grids.{block_joined, LaidOut, RegionOf}
 use Rattle.runs.specs.Contents.{CompleteBlock, RegionHeld, SameRegion, EmptyRegion}
 use Rattle.runs.proofs.RegionBases.{other_lacks, other_cells, standing_within}
 use Rattle.runs.proofs.BlockCells.{joins_at}
@@ -124,7 +123,7 @@ module _ {M : Type 0} (empty : M) (op : M → M → M) (lawful : Lawful empty op
               ∙ ap₂ ◌/◌ (sym number) (period_is ds place adds all S h child)
 
       -- the block is joined: the region holds what one block more of the parent contributes
-      module _ (y : Layout) (laid : Laid_out ds place y) (mp : ℕ) (up : group (length ds) mp ≡ parent adds h) (r u : Region) (c6 : List ℕ) (padded : c6 ≡ six 0 b.at)
+      module _ (y : Layout) (laid : LaidOut ds place y) (mp : ℕ) (up : group (length ds) mp ≡ parent adds h) (r u : Region) (c6 : List ℕ) (padded : c6 ≡ six 0 b.at)
           (of_r : RegionOf ds (group (length ds) mp) (mask_base ds place adds mp) (lacked_place ds place adds mp) r)
           (of_u : RegionOf ds h (mask_base ds place adds m) (lacked_place ds place adds m) u) where
         pub held_joined : (s s' : List M) → mask_base ds place adds m + mask_cells ds place adds m ≤ length s

@@ -1,16 +1,15 @@
 -- What the cells hold, over plain numbers and lists: for the dimensions ds, the chunks f, p chunks passed and h blocks handed out. From and to what is said of a run.
-use Rattle.std.proofs.Common.{◌≡◌, ℕ, ◌+◌, ◌-◌, ◌^◌, ◌<◌, ◌≤◌, Bool, true, false, cond, ltb, List, length, get_or, sym, refl, ap, ◌∙◌, subst, arith}
+use Rattle.std.proofs.Common.{◌≡◌, ℕ, ◌+◌, ◌-◌, ◌^◌, ◌<◌, ◌≤◌, true, false, ltb, List, length, get_or, sym, refl, ap, ◌∙◌, subst, arith}
 use Rattle.std.proofs.lemmas.List.{length-map}
 use Rattle.shapes.specs.declared.dims.Dim.{Dim}
-use Rattle.shapes.specs.Arrays.{Group, Below, volume, sizes, counts, chunks, group, groups, root, chunk_of, cleared}
-use Rattle.shapes.specs.Views.{dims_of}
+use Rattle.shapes.specs.Arrays.{Below, sizes, counts, chunks, group, groups, root, chunk_of, cleared}
 use Rattle.sources.specs.Meanings.{Chunk, Meaning}
 use Rattle.cubes.specs.Meanings.{meaning}
 use Rattle.cubes.specs.Summaries.{Divided, direct}
 use Rattle.cubes.proofs.Cells.{chunk_below, cleared_below, radix_all}
-use Rattle.runs.specs.Layouts.{mask_cells, mask_base, standing}
+use Rattle.runs.specs.Layouts.{standing}
 use Rattle.runs.specs.Planned.{places_of, adds_of, need_of, released_after, scanned_chunk}
-use Rattle.runs.specs.Answers.{passed, waits}
+use Rattle.runs.specs.Answers.{passed}
 use Rattle.runs.specs.Contents.{CompleteBlock, RegionHeld, EmptyRegion}
 use Rattle.runs.specs.Holdings.{Moment, dims_in, view, root_mask, RootEmpty, Represents}
 use Rattle.runs.proofs.RegionBases.{root_base, root_cells}

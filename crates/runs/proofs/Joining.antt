@@ -18,8 +18,8 @@ module _ {M : Type 0} (empty : M) (join : M → M → M) (laws : Lawful empty jo
   read_from o = get_or s (src o) empty
 
   -- a cell that is the target of no turn stays
-  pub turns-keep : (now : List M) (i q : ℕ) → Accumulated empty join laws dst read_from s now i → q < length s → ((o : ℕ) → o < i → dst o ≡ q → ⊥) → get_or now q empty ≡ get_or s q empty
-  turns-keep now i q inv l none = inv.1 q l
+  pub turns_keep : (now : List M) (i q : ℕ) → Accumulated empty join laws dst read_from s now i → q < length s → ((o : ℕ) → o < i → dst o ≡ q → ⊥) → get_or now q empty ≡ get_or s q empty
+  turns_keep now i q inv l none = inv.1 q l
       ∙ ap (join (get_or s q empty)) (big_none empty join laws (λ o. cond (eqb (dst o) q) (read_from o) empty) i (λ o m. ap (λ z. cond z (read_from o) empty) (ne_eqb (dst o) q (none o m))))
       ∙ join_empty empty join laws (get_or s q empty)
 
@@ -30,7 +30,7 @@ module _ {M : Type 0} (empty : M) (join : M → M → M) (laws : Lawful empty jo
       subst (λ z. Accumulated empty join laws dst read_from s z (o + 1)) (sym now_is) (accumulated_more empty join laws dst read_from s now o ly inv)
     where
       above_is : above ≡ read_from o
-      above_is = get_or_read now (src o) above (omega (arith, inv.0)) ea empty ∙ turns-keep now o (src o) inv lx clear
+      above_is = get_or_read now (src o) above (omega (arith, inv.0)) ea empty ∙ turns_keep now o (src o) inv lx clear
 
       below_is : below ≡ get_or now (dst o) empty
       below_is = get_or_read now (dst o) below (omega (arith, inv.0)) eb empty
@@ -97,6 +97,6 @@ module _ {M : Type 0} (empty : M) (join : M → M → M) (laws : Lawful empty jo
 
         above : (l : ℕ) → l < k → get_or now (x + l * get_or fs r 0) empty ≡ get_or s (f + dot fs (digits ks (n * k + l))) empty
         above l m = ap (λ z. get_or now z empty) (from_is l m)
-            ∙ turns-keep empty join laws s (λ o. t + dot ts (digits ks o)) (λ o. f + dot fs (digits ks o)) now (n * k) (f + dot fs (digits ks (n * k + l))) inv
+            ∙ turns_keep empty join laws s (λ o. t + dot ts (digits ks o)) (λ o. f + dot fs (digits ks o)) now (n * k) (f + dot fs (digits ks (n * k + l))) inv
             (wf (digits ks (n * k + l)) (digits_positive ks (n * k + l) pos))
             (λ o _ same. clear (digits ks (n * k + l)) (digits ks o) (digits_positive ks (n * k + l) pos) (digits_positive ks o pos) (sym same))

@@ -1,14 +1,13 @@
 -- What an accepted take, skip or hand says of the run, and which of the three would be accepted.
-use Rattle.std.proofs.Common.{◌≡◌, ℕ, ◌<◌, ◌≤◌, Bool, true, false, cond, not, ◌&&◌, eqb, ltb, List, [], ◌∷◌, is_ok, Ok, Err, Result, sym, refl, ap, ◌∙◌, subst, ap₂, arith}
-use Rattle.std.proofs.lemmas.Bool.{ltb-true, le-ltb, eqb-true, eqb-false, eq-eqb, and_parts, and_from, true≢false}
-use Rattle.shapes.specs.declared.dims.Dim.{Dim}
+use Rattle.std.proofs.Common.{◌≡◌, ℕ, ◌<◌, ◌≤◌, Bool, true, false, cond, not, ◌&&◌, eqb, ltb, is_ok, Ok, Err, Result, sym, refl, ap, ◌∙◌, subst, ap₂, arith}
+use Rattle.std.proofs.lemmas.Bool.{ltb-true, le-ltb, true≢false}
 use Rattle.shapes.specs.Arrays.{total_chunks}
 use Rattle.sources.specs.Meanings.{Chunk, values, faulty, Meaning}
 use Rattle.cubes.specs.Meanings.{is_readable}
 use Rattle.runs.specs.declared.refusals.RunRefusal.{RunRefusal}
 use Rattle.runs.specs.declared.refusals.RunRefusal.TheVariants.{TooFew, BlockWaits, AllPassed, OtherShape, NoBlock, ShortBuffer}
 use Rattle.runs.specs.Planned.{need_of, released_after, scanned_storage, block_after, block_size}
-use Rattle.runs.specs.Answers.{View, passed, waits, done, too_few, same_dims, next_chunk, then-chunk, take_read, take_answer, skip_read, skip_answer, hand_name, hand_answer}
+use Rattle.runs.specs.Answers.{View, passed, waits, done, too_few, same_dims, next_chunk, then_chunk, take_read, take_answer, skip_read, skip_answer, hand_name, hand_answer}
 use Rattle.runs.specs.Lives.{just_one}
 use Rattle.runs.proofs.NextChunk.{same_dims_decides, Ready, ready}
 
@@ -27,11 +26,11 @@ module _ {M : Type 0} where
   skipped_by (faulty cause entry) h = refl
 
   module _ (σ : Meaning M) (v : View) where
-    granted : (f : ℕ → Result (Unit {0}) RunRefusal) → Ok tt ≡ then-chunk (next_chunk v σ.dims) f
+    granted : (f : ℕ → Result (Unit {0}) RunRefusal) → Ok tt ≡ then_chunk (next_chunk v σ.dims) f
         → Ready v σ.dims (scanned_storage v.dims (passed v)) × (Ok tt ≡ f (scanned_storage v.dims (passed v)))
     granted f h = by (next_chunk v σ.dims) refl h
       where
-        by : (r : Result ℕ RunRefusal) → next_chunk v σ.dims ≡ r → Ok tt ≡ then-chunk r f
+        by : (r : Result ℕ RunRefusal) → next_chunk v σ.dims ≡ r → Ok tt ≡ then_chunk r f
             → Ready v σ.dims (scanned_storage v.dims (passed v)) × (Ok tt ≡ f (scanned_storage v.dims (passed v)))
         by (Ok k) e g =
             let is = ready v σ.dims k e in
@@ -79,14 +78,14 @@ module _ {M : Type 0} (n s k size : ℕ) (name : ℕ × ℕ × ℕ) (chunk : ℕ
   read_or_not (faulty cause entry) = refl
 
   one_by : (w e : Bool) → (e && not w) ≡ false
-      → just_one (is_ok (then-chunk (next_by n k false w e true) (λ j. take_read s j (chunk j)))) (is_ok (then-chunk (next_by n k false w e true) (λ j. skip_read (chunk j))))
+      → just_one (is_ok (then_chunk (next_by n k false w e true) (λ j. take_read s j (chunk j)))) (is_ok (then_chunk (next_by n k false w e true) (λ j. skip_read (chunk j))))
       (is_ok (hand_by n size false w false name)) ≡ true
   one_by true e h = refl
   one_by false true h = absurd (true≢false h)
   one_by false false h = read_or_not (chunk k)
 
   none_by : (w e short : Bool) → (e && not w) ≡ true
-      → (is_ok (then-chunk (next_by n k false w e true) (λ j. take_read s j (chunk j))) ≡ false) × (is_ok (then-chunk (next_by n k false w e true) (λ j. skip_read (chunk j))) ≡ false)
+      → (is_ok (then_chunk (next_by n k false w e true) (λ j. take_read s j (chunk j))) ≡ false) × (is_ok (then_chunk (next_by n k false w e true) (λ j. skip_read (chunk j))) ≡ false)
       × (is_ok (hand_by n size false w short name) ≡ false)
   none_by true true short h = absurd (true≢false (sym h))
   none_by true false short h = absurd (true≢false (sym h))
@@ -119,10 +118,10 @@ module _ {M : Type 0} (μ : Meaning M) (v : View) (same : v.dims ≡ μ.dims) (e
 
   pub take_comes : waits v ≡ false → done v ≡ false
       → take_answer μ v ≡ take_read (passed v) (scanned_storage v.dims (passed v)) (μ.chunk (scanned_storage v.dims (passed v)))
-  take_comes w h = ap (λ r. then-chunk r (λ k. take_read (passed v) k (μ.chunk k))) (going_on w h)
+  take_comes w h = ap (λ r. then_chunk r (λ k. take_read (passed v) k (μ.chunk k))) (going_on w h)
 
   pub skip_comes : waits v ≡ false → done v ≡ false → skip_answer μ v ≡ skip_read (μ.chunk (scanned_storage v.dims (passed v)))
-  skip_comes w h = ap (λ r. then-chunk r (λ k. skip_read (μ.chunk k))) (going_on w h)
+  skip_comes w h = ap (λ r. then_chunk r (λ k. skip_read (μ.chunk k))) (going_on w h)
 
   -- while a block waits, a buffer that is long enough gets it
   pub hand_comes : waits v ≡ true → (room : ℕ) → next_size ≤ room → hand_answer v room ≡ Ok (hand_name v.dims (block_after v.dims v.handed))

@@ -7,7 +7,7 @@ use Rattle.cubes.specs.Handing.{Block, named, Distinct}
 use Rattle.runs.specs.declared.refusals.RunRefusal.{RunRefusal}
 use Rattle.runs.specs.Planned.{block_size}
 use Rattle.runs.specs.Answers.{hand_name}
-use Rattle.runs.specs.Lives.{Event, Handed, take as took, skip as skipped, hand as handed, count as counted, named_block, takes_in, skips_in, if-handed, hands_in, HandOut}
+use Rattle.runs.specs.Lives.{Event, Handed, take as took, skip as skipped, hand as handed, count as counted, named_block, takes_in, skips_in, if_handed, hands_in, HandOut}
 
 module _ {M : Type 0} where
   pub takes_push : (es : List (Event M)) (e : Event M) → takes_in (es ++ (e ∷ [])) ≡ takes_in es + takes_in (e ∷ [])
@@ -24,15 +24,15 @@ module _ {M : Type 0} where
   skips_push (handed old r new ∷ es) e = skips_push es e
   skips_push (counted r ∷ es) e = skips_push es e
 
-  if-append : (old : List M) (r : Result (ℕ × ℕ × ℕ) RunRefusal) (new : List M) (hs ks : List (Handed M)) → if-handed old r new (hs ++ ks) ≡ if-handed old r new hs ++ ks
-  if-append old (Ok x) new hs ks = refl
-  if-append old (Err e) new hs ks = refl
+  if_append : (old : List M) (r : Result (ℕ × ℕ × ℕ) RunRefusal) (new : List M) (hs ks : List (Handed M)) → if_handed old r new (hs ++ ks) ≡ if_handed old r new hs ++ ks
+  if_append old (Ok x) new hs ks = refl
+  if_append old (Err e) new hs ks = refl
 
   pub hands_push : (es : List (Event M)) (e : Event M) → hands_in (es ++ (e ∷ [])) ≡ hands_in es ++ hands_in (e ∷ [])
   hands_push [] e = refl
   hands_push (took r ∷ es) e = hands_push es e
   hands_push (skipped r ∷ es) e = hands_push es e
-  hands_push (handed old r new ∷ es) e = ap (if-handed old r new) (hands_push es e) ∙ if-append old r new (hands_in es) (hands_in (e ∷ []))
+  hands_push (handed old r new ∷ es) e = ap (if_handed old r new) (hands_push es e) ∙ if_append old r new (hands_in es) (hands_in (e ∷ []))
   hands_push (counted r ∷ es) e = hands_push es e
 
   -- the hand after the first ones is that of the block after theirs

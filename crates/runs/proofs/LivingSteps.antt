@@ -15,7 +15,7 @@ use Rattle.runs.specs.Planned.{need_of, handing_order, released_after, scanned_s
 use Rattle.runs.specs.Answers.{passed, hand_name, one_handed}
 use Rattle.runs.specs.Holdings.{Moment, dims_in, view, Represents}
 use Rattle.runs.specs.Calls.{Makes, Takes, Skips, Hands}
-use Rattle.runs.specs.Lives.{Event, Handed, take as taking, skip as skipping, hand as handing, count as counting-up, Fits, takes_in, skips_in, hands_in, HandOut}
+use Rattle.runs.specs.Lives.{Event, Handed, take as taking, skip as skipping, hand as handing, count as counting_up, Fits, takes_in, skips_in, hands_in, HandOut}
 use Rattle.runs.proofs.LivingEvents.{takes_push, skips_push, hands_push, hand_out_push}
 use Rattle.runs.proofs.NextChunk.{Ready}
 use Rattle.runs.proofs.LivingAnswers.{take_granted, skip_granted, hand_granted}
@@ -194,5 +194,5 @@ module _ {M : Type 0} (empty : M) (op : M → M → M) (μ : Meaning M) where
         g = hand_granted (view b) (length old) x t.answers
     living_hand old new (Err e) t = living_same es b a it (t.represents μ it.represents) (handing old (Err e) new) t.counts refl refl refl
 
-  pub living_count : (es : List (Event M)) (m : Moment M) (r : Counts) → Living empty op μ es m → Living empty op μ (es ++ (counting-up r ∷ [])) m
-  living_count es m r it = living_same es m m it it.represents (counting-up r) refl refl refl refl
+  pub living_count : (es : List (Event M)) (m : Moment M) (r : Counts) → Living empty op μ es m → Living empty op μ (es ++ (counting_up r ∷ [])) m
+  living_count es m r it = living_same es m m it it.represents (counting_up r) refl refl refl refl

@@ -2,7 +2,7 @@
 use Rattle.std.proofs.Common.{◌≡◌, ℕ, ◌+◌, ◌<◌, ◌≤◌, true, false, ltb, List, length, get_or, Some, None, Ok, Err, sym, ap, ◌∙◌, arith}
 use Rattle.std.proofs.lemmas.Bool.{cond-true, cond-false, lt-ltb, le-ltb}
 use Rattle.shapes.specs.declared.dims.Dim.{Dim}
-use Rattle.shapes.specs.Arrays.{Below, counts, edges, group, groups, number, product, radix}
+use Rattle.shapes.specs.Arrays.{Below, counts, edges, group, groups, product, radix}
 use Rattle.shapes.specs.Views.{six}
 use Rattle.cubes.specs.Handing.{handing, named}
 use Rattle.cubes.specs.Scans.{scan_digits}

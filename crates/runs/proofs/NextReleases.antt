@@ -1,5 +1,5 @@
 -- From the control of a run to the handing order: whose release the block that is next is of, and which chunk a block of the root is.
-use Rattle.std.proofs.Common.{◌≡◌, ℕ, zero, suc, ◌+◌, ◌-◌, ◌*◌, ◌/◌, ◌^◌, ◌<◌, ◌≤◌, Bool, true, false, cond, ◌⊎◌, List, [], length, get_or, take, drop, Some, None, filter, Option, sym, refl, ap, ◌∙◌, subst, ⊎_elim, arith}
+use Rattle.std.proofs.Common.{◌≡◌, ℕ, zero, suc, ◌+◌, ◌-◌, ◌*◌, ◌/◌, ◌^◌, ◌<◌, ◌≤◌, Bool, true, false, cond, List, [], length, get_or, take, drop, Some, None, filter, Option, sym, refl, ap, ◌∙◌, subst, ⊎_elim, arith}
 use Rattle.std.specs.List.{ContainsAt as Has}
 use Rattle.std.proofs.lemmas.Nat.{pow_pos}
 use Rattle.std.proofs.lemmas.List.Elements.{filter-append}
@@ -10,7 +10,7 @@ use Rattle.shapes.specs.Arrays.{Group, total_chunks, group, groups, root}
 use Rattle.shapes.proofs.Masks.{length-group}
 use Rattle.cubes.specs.Handing.{Block, Scan, same_group, parent, of_group, blocks_of, released, released_by, handing, tally}
 use Rattle.cubes.specs.Control.{tree, due_by}
-use Rattle.cubes.specs.Turns.{stands_below, next_group, in-release}
+use Rattle.cubes.specs.Turns.{stands_below, next_group, in_release}
 use Rattle.cubes.specs.Progress.{Progress}
 use Rattle.cubes.proofs.Counting.{progress_laws}
 use Rattle.cubes.proofs.Complete.{kept_one_more}
@@ -27,19 +27,19 @@ use Rattle.runs.proofs.Steering.{scanned}
 use Rattle.runs.proofs.Stepping.{released_few, next_is, progress}
 use Rattle.runs.proofs.ReleaseMasks.{release_below}
 
-pub of_release_is : (ds : List Dim) (adds : Group → ℕ) (k j : ℕ) → of_release ds adds k j ≡ in-release ds adds (group (length ds) k) (group (length ds) j)
+pub of_release_is : (ds : List Dim) (adds : Group → ℕ) (k j : ℕ) → of_release ds adds k j ≡ in_release ds adds (group (length ds) k) (group (length ds) j)
 unfolding of_release
 of_release_is ds adds k j = refl
 
 -- every block is of the root's release
 pub release_root : (ds : List Dim) (place : ℕ → ℕ) (adds : Group → ℕ) → Scan ds place adds (groups (length ds)) → (k j : ℕ) → k + 1 ≡ 2 ^ length ds → of_release ds adds k j ≡ true
 release_root ds place adds S k j e = let (t, l, u) = under_root ds place adds (groups (length ds)) S g (groups_have (length ds) g (length-group (length ds) j)) in
-    of_release_is ds adds k j ∙ ap (λ h. in-release ds adds h g) (root_of (length ds) k e) ∙ by t l u
+    of_release_is ds adds k j ∙ ap (λ h. in_release ds adds h g) (root_of (length ds) k e) ∙ by t l u
   where
     g : Group
     g = group (length ds) j
 
-    by : (t : ℕ) → t ≤ length ds → Under (tree ds place adds (groups (length ds))) (ChildOf adds (groups (length ds))) t (root (length ds)) g → in-release ds adds (root (length ds)) g ≡ true
+    by : (t : ℕ) → t ≤ length ds → Under (tree ds place adds (groups (length ds))) (ChildOf adds (groups (length ds))) t (root (length ds)) g → in_release ds adds (root (length ds)) g ≡ true
     by zero l u = or_left (same_group g (root (length ds))) (stands_below adds (length ds) g (root (length ds)))
         (ap (λ h. same_group h (root (length ds))) u ∙ same_group_refl (root (length ds)))
     by (suc t) l u = or_right (same_group g (root (length ds))) (stands_below adds (length ds) g (root (length ds)))
@@ -82,20 +82,20 @@ module _ (ds : List Dim) (place : ℕ → ℕ) (adds : Group → ℕ) (c : Contr
       ap (λ b. b.of) (get_or_past (handing ds place adds all) c.handed none_block (omega (arith, s.idle e, ap (released ds place adds all) full)))
 
   -- whether the next block of the handing order is of the release of a group but the root: by the mask that is next; if none is, it is not
-  pub next_release : (k : ℕ) → k + 1 < 2 ^ n → in-release ds adds (group n k) (next_group ds place adds all c.handed) ≡ next_of_release ds adds k c.next
+  pub next_release : (k : ℕ) → k + 1 < 2 ^ n → in_release ds adds (group n k) (next_group ds place adds all c.handed) ≡ next_of_release ds adds k c.next
   next_release k l = by c.next refl
     where
       some : length (group n k) ≡ 0 → ⊥
       some e = let z : n ≡ 0 = sym (length-group n k) ∙ e in omega (arith, ap (λ i. 2 ^ i) z)
 
-      none : in-release ds adds (group n k) [] ≡ false
+      none : in_release ds adds (group n k) [] ≡ false
       none = or_from (same_group [] (group n k)) (stands_below adds n [] (group n k)) (same_group_ne [] (group n k) (λ e. some (sym (ap length e)))) (none_below adds n (group n k))
 
-      by : (o : Option ℕ) → c.next ≡ o → in-release ds adds (group n k) (next_group ds place adds all c.handed) ≡ next_of_release ds adds k o
-      by (Some m) e = ap (in-release ds adds (group n k)) ((next_is ds place adds c s (Some m) e).2 none_block) ∙ sym (of_release_is ds adds k m)
+      by : (o : Option ℕ) → c.next ≡ o → in_release ds adds (group n k) (next_group ds place adds all c.handed) ≡ next_of_release ds adds k o
+      by (Some m) e = ap (in_release ds adds (group n k)) ((next_is ds place adds c s (Some m) e).2 none_block) ∙ sym (of_release_is ds adds k m)
       by None e = ⊎_elim
-          (λ m. ap (in-release ds adds (group n k)) (next_top e m) ∙ sym (of_release_is ds adds k (2 ^ n - 1)) ∙ release_below ds place adds S k (2 ^ n - 1) (omega arith) (omega (arith, pow_pos n)))
-          (λ m. ap (in-release ds adds (group n k)) (next_none e m) ∙ none) (cases_lt c.passed (total_chunks ds))
+          (λ m. ap (in_release ds adds (group n k)) (next_top e m) ∙ sym (of_release_is ds adds k (2 ^ n - 1)) ∙ release_below ds place adds S k (2 ^ n - 1) (omega arith) (omega (arith, pow_pos n)))
+          (λ m. ap (in_release ds adds (group n k)) (next_none e m) ∙ none) (cases_lt c.passed (total_chunks ds))
 
   -- the first t chunks release t blocks of the root
   due_root : (t f : ℕ) → due_by (tree ds place adds all) t f (root n) ≡ t

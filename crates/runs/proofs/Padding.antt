@@ -16,7 +16,7 @@ use Rattle.runs.specs.declared.layouts.Layout.{Layout}
 use Rattle.runs.specs.declared.layouts.Region.{Region}
 use Rattle.runs.specs.Boxes.{dot}
 use Rattle.runs.specs.Layouts.{region_radix, region_radices, region_digit, cell_number, region_stride, block_digit}
-use Rattle.runs.specs.Grids.{radix_at, cells_in, stride_at, strides_in, first_at, start_of, digit_at, index_of, block_edges, Laid_out, RegionOf}
+use Rattle.runs.specs.Grids.{radix_at, cells_in, stride_at, strides_in, first_at, start_of, digit_at, index_of, block_edges, LaidOut, RegionOf}
 use Rattle.runs.proofs.CellNumbers.{product_counting, dot_sum, cell_number_sum, cell_number_strides}
 
 -- a list filled up to six
@@ -81,7 +81,7 @@ sum_rest f n m l none =
     ∙ ap (λ z. big 0 ◌+◌ f n + z) (big_none 0 ◌+◌ sums (λ i. f (n + i)) (m - n) (λ i k. none (n + i) (omega arith) (omega arith)))
     ∙ add-zero (big 0 ◌+◌ f n)
 
-module _ (ds : List Dim) (place : ℕ → ℕ) (y : Layout) (laid : Laid_out ds place y) (g : Group) (lg : length g ≡ length ds) (base p : ℕ) (r : Region) (of : RegionOf ds g base p r) where
+module _ (ds : List Dim) (place : ℕ → ℕ) (y : Layout) (laid : LaidOut ds place y) (g : Group) (lg : length g ≡ length ds) (base p : ℕ) (r : Region) (of : RegionOf ds g base p r) where
   kept_are : r.kept ≡ g ++ replicate (6 - length ds) false
   kept_are = of.keeping ∙ six_padded false g (length ds) lg laid.few
 

@@ -1,12 +1,11 @@
 -- The region of a group emptied, in a run's cells.
-use Rattle.std.proofs.Common.{◌≡◌, ℕ, ◌+◌, ◌^◌, ◌<◌, ◌≤◌, List, length, get_or, sym, ap, ◌∙◌, subst, arith, pow_mono}
+use Rattle.std.proofs.Common.{◌≡◌, ℕ, ◌+◌, ◌^◌, ◌<◌, ◌≤◌, List, length, sym, ap, ◌∙◌, subst, arith, pow_mono}
 use Rattle.shapes.specs.declared.dims.Dim.{Dim}
 use Rattle.shapes.specs.Views.{dims_of}
 use Rattle.shapes.proofs.Held.{limits}
 use Rattle.runs.specs.declared.state.State.{State}
 use Rattle.runs.specs.declared.layouts.Region.{Region}
 use Rattle.runs.specs.Boxes.{emptied}
-use Rattle.runs.specs.Contents.{SameRegion, EmptyRegion}
 use Rattle.runs.specs.Grids.{cells_in, Narrow, region_by}
 use Rattle.runs.specs.Planned.{places_of, adds_of, need_of}
 use Rattle.runs.specs.Holdings.{root_mask}

@@ -1,17 +1,16 @@
 -- Releases by masks: a group is of the release of each group that climbing from it by parents comes to.
 use Rattle.std.proofs.Common.{◌≡◌, ℕ, zero, suc, ◌+◌, ◌^◌, ◌<◌, ◌≤◌, Bool, true, false, eqb, ◌⊎◌, List, length, sym, refl, ap, ◌∙◌, subst, inl, inr, ⊎_elim, arith}
 use Rattle.std.specs.List.{ContainsAt as Has}
-use Rattle.std.proofs.lemmas.Nat.{pow_pos}
-use Rattle.std.proofs.lemmas.Bool.{cases_Bool, cases_eq, cases_lt, eq-eqb, ne_eqb, both_ways, or_cases, or_left, or_right}
+use Rattle.std.proofs.lemmas.Bool.{cases_Bool, cases_eq, cases_lt, eq-eqb, ne_eqb, or_cases, or_left, or_right}
 use Rattle.shapes.specs.declared.dims.Dim.{Dim}
 use Rattle.shapes.specs.Arrays.{Group, mask, group, groups, root}
 use Rattle.shapes.proofs.Masks.{length-group, mask-group}
 use Rattle.cubes.specs.Control.{tree}
 use Rattle.cubes.specs.Handing.{Scan, parent, same_group}
-use Rattle.cubes.specs.Turns.{stands_below, in-release}
+use Rattle.cubes.specs.Turns.{stands_below, in_release}
 use Rattle.cubes.proofs.Groups.{groups_have, not_root_of, mask-set}
 use Rattle.cubes.proofs.Machine.{Under, same_group_true, same_group_refl, under_level}
-use Rattle.cubes.proofs.Trees.{ChildOf, level, level_le, laws, is_child, sized}
+use Rattle.cubes.proofs.Trees.{ChildOf, level, level_le, laws, is_child}
 use Rattle.cubes.proofs.Climbing.{below_under, under_below}
 use Rattle.cubes.proofs.Counting.{mask_tree}
 use Rattle.runs.specs.declared.tree.Tree.{Tree}
@@ -39,11 +38,11 @@ module _ (ds : List Dim) (place : ℕ → ℕ) (adds : Group → ℕ) (S : Scan 
   has m = groups_have n (group n m) (length-group n m)
 
   -- to be of a release is to come there by so many parents
-  release_above : (h z : Group) → Has all z → in-release ds adds h z ≡ true → (j : ℕ) × Above j h z
+  release_above : (h z : Group) → Has all z → in_release ds adds h z ≡ true → (j : ℕ) × Above j h z
   release_above h z k t = ⊎_elim (λ e. (0, same_group_true z h e)) (λ e. let (j, u) = below_under ds place adds all S n z h k e in (suc j, u))
       (or_cases (same_group z h) (stands_below adds n z h) t)
 
-  above_release : (j : ℕ) (h z : Group) → length h ≡ n → Above j h z → in-release ds adds h z ≡ true
+  above_release : (j : ℕ) (h z : Group) → length h ≡ n → Above j h z → in_release ds adds h z ≡ true
   above_release zero h z l u = or_left (same_group z h) (stands_below adds n z h) (ap (λ g. same_group g h) u ∙ same_group_refl h)
   above_release (suc j) h z l u = or_right (same_group z h) (stands_below adds n z h)
       (under_below ds place adds all S j n z h u
@@ -82,31 +81,31 @@ module _ (ds : List Dim) (place : ℕ → ℕ) (adds : Group → ℕ) (S : Scan 
   release_below k m l lm = ⊎_elim
       (λ t. let (j, u) = release_above (group n k) (group n m) (has m) t in
       absurd (omega (arith, above_mask j (group n k) (group n m) u, mask-group n k (omega arith), mask-group n m lm)))
-      (λ t. t) (cases_Bool (in-release ds adds (group n k) (group n m)))
+      (λ t. t) (cases_Bool (in_release ds adds (group n k) (group n m)))
 
   -- another group is of it exactly if its parent is
   pub release_up : (k m : ℕ) → k < 2 ^ n → m + 1 < 2 ^ n → (m ≡ k → ⊥) → of_release ds adds k (m + 2 ^ adds (group n m)) ≡ of_release ds adds k m
   unfolding of_release
-  release_up k m lk lm ne = ap (in-release ds adds (group n k)) (sym (parent_mask m lm))
-      ∙ same_test (in-release ds adds (group n k) (parent adds (group n m))) (in-release ds adds (group n k) (group n m))
+  release_up k m lk lm ne = ap (in_release ds adds (group n k)) (sym (parent_mask m lm))
+      ∙ same_test (in_release ds adds (group n k) (parent adds (group n m))) (in_release ds adds (group n k) (group n m))
       (λ t. let (j, u) = release_above (group n k) (parent adds (group n m)) (subst (Has all) (sym (parent_mask m lm)) (has (m + 2 ^ adds (group n m)))) t in
       above_release (suc j) (group n k) (group n m) (length-group n k) (child m lm, u))
       (λ t. go (release_above (group n k) (group n m) (has m) t))
     where
-      go : ((j : ℕ) × Above j (group n k) (group n m)) → in-release ds adds (group n k) (parent adds (group n m)) ≡ true
+      go : ((j : ℕ) × Above j (group n k) (group n m)) → in_release ds adds (group n k) (parent adds (group n m)) ≡ true
       go (zero, u) = absurd (ne (sym (mask-group n m (omega arith)) ∙ ap mask u ∙ mask-group n k lk))
       go (suc j, u) = above_release j (group n k) (parent adds (group n m)) (length-group n k) u.1
 
 -- Climbing by a tree that was made for the scan
 module _ (ds : List Dim) (place : ℕ → ℕ) (adds : Group → ℕ) (tr : Tree) (g : Grown ds place adds tr) where
-  pub climb-step : (k m : ℕ) → m < k → k < 2 ^ tr.n → of_release ds adds k (node tr m).up ≡ of_release ds adds k m
-  climb-step k m l lk =
+  pub climb_step : (k m : ℕ) → m < k → k < 2 ^ tr.n → of_release ds adds k (node tr m).up ≡ of_release ds adds k m
+  climb_step k m l lk =
       let a : k < 2 ^ length ds = omega (arith, same_groups ds place adds tr g) in
       let b : m + 1 < 2 ^ length ds = omega arith in
       ap (of_release ds adds k) (g.ups m b) ∙ release_up ds place adds (scanned ds place adds tr g) k m a b (λ e. omega arith)
 
-  pub climb-end : (k m : ℕ) → k ≤ m → m < 2 ^ tr.n → eqb m k ≡ of_release ds adds k m
-  climb-end k m l lm = by (cases_eq m k)
+  pub climb_end : (k m : ℕ) → k ≤ m → m < 2 ^ tr.n → eqb m k ≡ of_release ds adds k m
+  climb_end k m l lm = by (cases_eq m k)
     where
       by : (m ≡ k) ⊎ (m ≡ k → ⊥) → eqb m k ≡ of_release ds adds k m
       by (inl e) = eq-eqb m k e ∙ sym (ap (of_release ds adds k) e ∙ release_self ds place adds (scanned ds place adds tr g) k)

@@ -1,13 +1,13 @@
 -- Climbing from the group of a block and emptying regions on the way: which regions were emptied so far.
-use Rattle.std.proofs.Common.{◌≡◌, ℕ, ◌+◌, ◌^◌, ◌<◌, ◌≤◌, Bool, true, false, not, ◌&&◌, ◌⊎◌, List, length, get_or, Some, None, Option, sym, refl, ap, ◌∙◌, subst, inl, inr, ⊎_elim, arith}
+use Rattle.std.proofs.Common.{◌≡◌, ℕ, ◌^◌, ◌<◌, ◌≤◌, Bool, true, false, not, ◌⊎◌, List, length, get_or, Some, None, Option, sym, refl, ◌∙◌, subst, inl, inr, ⊎_elim, arith}
 use Rattle.std.proofs.lemmas.Bool.{cases_lt, cases_eq, cases_Bool, both_ways, and_parts, and_from, not-true, not_from_false}
 use Rattle.shapes.specs.declared.dims.Dim.{Dim}
-use Rattle.shapes.specs.Arrays.{Group, group, groups}
+use Rattle.shapes.specs.Arrays.{groups}
 use Rattle.cubes.specs.Handing.{Scan}
 use Rattle.runs.specs.Contents.{SameRegion, EmptyRegion}
 use Rattle.runs.specs.Planned.{places_of, adds_of, need_of}
 use Rattle.runs.specs.Emptying.{of_release, next_of_release, release_over, EmptiedMask, EmptiedOver}
-use Rattle.runs.proofs.ReleaseMasks.{release_self, release_below, release_up, release_trans}
+use Rattle.runs.proofs.ReleaseMasks.{release_self, release_below, release_trans}
 
 -- of the groups whose release the block of the mask j is of, those of masks below `upto` were emptied, and nothing else changed
 pub record EmptiedBelow {M : Type 0} (empty : M) (ds : List Dim) (j : ℕ) (next : Option ℕ) (upto : ℕ) (before after : List M) : Type 0 where

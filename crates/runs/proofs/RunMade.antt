@@ -1,8 +1,7 @@
 -- A run that was made: what its user knows of it, and what its cells hold.
-use Rattle.std.proofs.Common.{◌≡◌, ℕ, ◌+◌, ◌<◌, ◌≤◌, Bool, true, false, cond, leb, ◌⊎◌, List, ◌++◌, length, drop, replicate, sym, refl, ap, ◌∙◌, subst, inl, inr, arith}
+use Rattle.std.proofs.Common.{◌≡◌, ℕ, ◌<◌, ◌≤◌, cond, ◌⊎◌, List, ◌++◌, length, drop, replicate, sym, refl, ap, ◌∙◌, subst, inl, inr, arith}
 use Rattle.std.proofs.lemmas.List.{length-append, length-drop, length-replicate}
 use Rattle.std.proofs.lemmas.Bool.{cases_lt, le-leb, lt-leb}
-use Rattle.shapes.specs.declared.dims.Dim.{Dim}
 use Rattle.shapes.specs.declared.shape.Shape.{Shape}
 use Rattle.shapes.specs.Views.{dims_of}
 use Rattle.shapes.proofs.Held.{limits}
@@ -12,7 +11,7 @@ use Rattle.cubes.specs.Meanings.{meaning}
 use Rattle.runs.specs.declared.state.State.{State}
 use Rattle.runs.specs.Planned.{need_of}
 use Rattle.runs.specs.Answers.{passed}
-use Rattle.runs.specs.Holdings.{Moment, moment_of, dims_in, view, first_emptied, planned_emptied, Clean, Represents}
+use Rattle.runs.specs.Holdings.{Moment, moment_of, dims_in, view, first_emptied, planned_emptied, Represents}
 use Rattle.runs.specs.Calls.{Makes}
 use Rattle.runs.specs.Steps.{Begins}
 use Rattle.runs.proofs.FromState.{divided_in}

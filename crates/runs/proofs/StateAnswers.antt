@@ -1,6 +1,6 @@
 -- What a run's state answers, from what its control says.
-use Rattle.std.proofs.Common.{◌≡◌, ℕ, ◌+◌, ◌-◌, ◌^◌, ◌<◌, Bool, true, false, cond, not, ◌&&◌, eqb, ltb, List, [], ◌∷◌, length, Ok, Err, Decides, sym, refl, ap, ◌∙◌, ap₂, arith}
-use Rattle.std.proofs.lemmas.Bool.{cond-true, cond-false, eq-eqb, eqb-false, ne_eqb, false≢true}
+use Rattle.std.proofs.Common.{◌≡◌, ℕ, ◌+◌, ◌-◌, ◌^◌, ◌<◌, Bool, true, false, cond, not, eqb, ltb, List, length, Ok, Err, Decides, sym, refl, ap, ◌∙◌, arith}
+use Rattle.std.proofs.lemmas.Bool.{cond-true, cond-false, eq-eqb, ne_eqb}
 use Rattle.std.proofs.lemmas.Bool.Decides.{same_from_decides, Decides-eqb, Decides-ltb, Decides-not, Decides-and, Decides-like}
 use Rattle.shapes.specs.declared.dims.Dim.{Dim}
 use Rattle.shapes.specs.declared.shape.Shape.{Shape}
@@ -15,10 +15,9 @@ use Rattle.cubes.proofs.Trees.{radix_root_counts}
 use Rattle.runs.specs.declared.state.State.{State}
 use Rattle.runs.specs.Controls.{WaitsExactly, DoneExactly}
 use Rattle.runs.specs.Trees.{HasBlock, CoordinatesOf, NumberOf}
-use Rattle.runs.specs.Planned.{places_of, adds_of, need_of, released_after, scanned_chunk, scanned_storage}
-use Rattle.runs.specs.declared.refusals.RunRefusal.{RunRefusal}
-use Rattle.runs.specs.declared.refusals.RunRefusal.TheVariants.{TooFew, BlockWaits, AllPassed, OtherShape}
-use Rattle.runs.specs.Answers.{View, passed, waits, done, too_few, same_dims, next_chunk}
+use Rattle.runs.specs.Planned.{places_of, adds_of, released_after, scanned_chunk, scanned_storage}
+use Rattle.runs.specs.declared.refusals.RunRefusal.TheVariants.{BlockWaits, AllPassed, OtherShape}
+use Rattle.runs.specs.Answers.{waits, done, too_few, same_dims, next_chunk}
 use Rattle.runs.specs.Holdings.{state_view}
 use Rattle.runs.proofs.PlannedScans.{released_is}
 use Rattle.runs.proofs.NextChunk.{same_dims_decides}

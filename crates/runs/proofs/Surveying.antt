@@ -20,7 +20,7 @@ use Rattle.runs.specs.Answers.{View, take_answer, skip_answer, hand_answer, coun
 use Rattle.runs.specs.Holdings.{Moment, dims_in, view, first_emptied}
 use Rattle.runs.specs.Calls.{Makes, Takes, Skips, Hands, PastStay, next_block}
 use Rattle.runs.specs.Lives.{Event, take as taking, skip as skipping, hand as handing, made, took, skipped, handed, one_if, just_one, History, Kept}
-use Rattle.runs.specs.Surveys.{survey_counts, lent_answer, accepted, OneNext, Goes_on}
+use Rattle.runs.specs.Surveys.{survey_counts, lent_answer, accepted, OneNext, GoesOn}
 use Rattle.runs.proofs.FromState.{controls_in}
 use Rattle.runs.proofs.Stepping.{done_fits}
 use Rattle.runs.proofs.RunMade.{emptied_length}
@@ -75,22 +75,22 @@ module _ {M : Type 0} (b a : Moment M) where
   counted v d l n false is = (ap (λ w. w.dims) is, ap (λ w. w.lent) is, ap accepted is ∙ omega arith)
 
 module _ {M : Type 0} (empty : M) (op : M → M → M) (σ : Meaning M) where
-  pub take_goes : (b a : Moment M) (r : Result (Unit {0}) RunRefusal) → Takes empty op σ b r a → Goes_on empty op σ (one_if r) b a
+  pub take_goes : (b a : Moment M) (r : Result (Unit {0}) RunRefusal) → Takes empty op σ b r a → GoesOn empty op σ (one_if r) b a
   take_goes b a r t =
       let n = counted b a (one_taken (view b)) refl refl (omega arith) (is_ok r) t.counts in
       record { same_shape = n.0; same_lent = n.1; more = n.2; past_stay = t.fetches.past_stay; lives = λ es h. (es ++ (taking r ∷ []), took h (fits_itself empty op σ) t) }
 
-  pub skip_goes : (b a : Moment M) (r : Result (Unit {0}) RunRefusal) → Skips empty op σ b r a → Goes_on empty op σ (one_if r) b a
+  pub skip_goes : (b a : Moment M) (r : Result (Unit {0}) RunRefusal) → Skips empty op σ b r a → GoesOn empty op σ (one_if r) b a
   skip_goes b a r t =
       let n = counted b a (one_skipped (view b)) refl refl (omega arith) (is_ok r) t.counts in
       record { same_shape = n.0; same_lent = n.1; more = n.2; past_stay = t.fetches.past_stay; lives = λ es h. (es ++ (skipping r ∷ []), skipped h (fits_itself empty op σ) t) }
 
-  pub hand_goes : (b a : Moment M) (old new : List M) (r : Result (ℕ × ℕ × ℕ) RunRefusal) → Hands empty op b old r new a → Goes_on empty op σ (one_if r) b a
+  pub hand_goes : (b a : Moment M) (old new : List M) (r : Result (ℕ × ℕ × ℕ) RunRefusal) → Hands empty op b old r new a → GoesOn empty op σ (one_if r) b a
   hand_goes b a old new r t =
       let n = counted b a (one_handed (view b)) refl refl (omega arith) (is_ok r) t.counts in
       record { same_shape = n.0; same_lent = n.1; more = n.2; past_stay = t.past_stay; lives = λ es h. (es ++ (handing old r new ∷ []), handed h t) }
 
-  pub goes_then : (i j : ℕ) (b m a : Moment M) → Goes_on empty op σ i b m → Goes_on empty op σ j m a → Goes_on empty op σ (i + j) b a
+  pub goes_then : (i j : ℕ) (b m a : Moment M) → GoesOn empty op σ i b m → GoesOn empty op σ j m a → GoesOn empty op σ (i + j) b a
   goes_then i j b m a p q = record {
     same_shape = q.same_shape ∙ p.same_shape;
     same_lent = q.same_lent ∙ p.same_lent;
@@ -108,8 +108,8 @@ module _ {M : Type 0} (empty : M) (op : M → M → M) (σ : Meaning M) where
   last_one false false false h p q = h
 
   module _ (b handed_on : Moment M) (old new : List M) (r : Result (ℕ × ℕ × ℕ) RunRefusal) (hands : Hands empty op b old r new handed_on) where
-    pub handed_first : is_ok r ≡ true → Goes_on empty op σ 1 b handed_on
-    handed_first ok = subst (λ c. Goes_on empty op σ (cond c 1 0) b handed_on) ok (hand_goes b handed_on old new r hands)
+    pub handed_first : is_ok r ≡ true → GoesOn empty op σ 1 b handed_on
+    handed_first ok = subst (λ c. GoesOn empty op σ (cond c 1 0) b handed_on) ok (hand_goes b handed_on old new r hands)
 
     -- the buffer past the cells of a chunk is as it was: no block has more
     pub buffer_stays : drop (volume (dims_in b)) new ≡ drop (volume (dims_in b)) old
@@ -125,17 +125,17 @@ module _ {M : Type 0} (empty : M) (op : M → M → M) (σ : Meaning M) where
       as_before = hands.counts ∙ ap (λ c. cond c (one_handed (view b)) (view b)) no
 
       module _ (taken_on : Moment M) (s : Result (Unit {0}) RunRefusal) (takes : Takes empty op σ handed_on s taken_on) where
-        both : Goes_on empty op σ (one_if r + one_if s) b taken_on
+        both : GoesOn empty op σ (one_if r + one_if s) b taken_on
         both = goes_then (one_if r) (one_if s) b handed_on taken_on (hand_goes b handed_on old new r hands) (take_goes handed_on taken_on s takes)
 
-        pub taken_second : is_ok s ≡ true → Goes_on empty op σ 1 b taken_on
-        taken_second ok = subst (λ n. Goes_on empty op σ n b taken_on) (ap (λ c. cond c 1 0 + one_if s) no ∙ ap (λ c. 0 + cond c 1 0) ok) both
+        pub taken_second : is_ok s ≡ true → GoesOn empty op σ 1 b taken_on
+        taken_second ok = subst (λ n. GoesOn empty op σ n b taken_on) (ap (λ c. cond c 1 0 + one_if s) no ∙ ap (λ c. 0 + cond c 1 0) ok) both
 
         pub skipped_last : OneNext σ (view b) (length old) → is_ok s ≡ false → (τ : Meaning M) → τ ≡ σ → (skipped_on : Moment M) (t : Result (Unit {0}) RunRefusal)
-            → Skips empty op τ taken_on t skipped_on → Goes_on empty op σ 1 b skipped_on
+            → Skips empty op τ taken_on t skipped_on → GoesOn empty op σ 1 b skipped_on
         unfolding OneNext
         skipped_last next refused τ same skipped_on t skips =
-            subst (λ n. Goes_on empty op σ n b skipped_on) one (goes_then (one_if r + one_if s) (one_if t) b taken_on skipped_on both (skip_goes taken_on skipped_on t over))
+            subst (λ n. GoesOn empty op σ n b skipped_on) one (goes_then (one_if r + one_if s) (one_if t) b taken_on skipped_on both (skip_goes taken_on skipped_on t over))
           where
             over : Skips empty op σ taken_on t skipped_on
             over = subst (λ m. Skips empty op m taken_on t skipped_on) same skips
@@ -180,12 +180,12 @@ module _ {M : Type 0} (empty : M) (op : M → M → M) (σ : Meaning M) where
     lives = ([], made (subst (λ es. need_of es ≤ length lent) same enough) (subst (λ es. Makes empty op es lent m) same makes));
   }
 
-  pub driven_on : (b m a : Moment M) → Driven empty op σ b m → (τ : Meaning M) → τ ≡ σ → (n : ℕ) → Goes_on empty op τ n m a → Driven empty op σ b a
+  pub driven_on : (b m a : Moment M) → Driven empty op σ b m → (τ : Meaning M) → τ ≡ σ → (n : ℕ) → GoesOn empty op τ n m a → Driven empty op σ b a
   driven_on b m a it τ same n goes = record {
     same_shape = goes.same_shape ∙ it.same_shape;
     same_lent = goes.same_lent ∙ it.same_lent;
     past_stay = subst (λ ds. drop (need_of ds) a.cells ≡ drop (need_of ds) m.cells) it.same_shape goes.past_stay ∙ it.past_stay;
-    lives = (subst (λ μ. Goes_on empty op μ n m a) same goes).lives it.lives.0 it.lives.1;
+    lives = (subst (λ μ. GoesOn empty op μ n m a) same goes).lives it.lives.0 it.lives.1;
   }
 
   module _ (m : Moment M) (es : List (Event M)) (told : Counts) (kept : Kept empty op σ es m told) (on : told.done ≡ false) where
@@ -212,7 +212,7 @@ module _ {M : Type 0} (empty : M) (op : M → M → M) (σ : Meaning M) where
         ))) ∙ on)
 
   -- fewer after each turn
-  pub fewer_left : (m a : Moment M) → Goes_on empty op σ 1 m a → accepted (view m) < total_chunks (dims_in m) + block_count (dims_in m)
+  pub fewer_left : (m a : Moment M) → GoesOn empty op σ 1 m a → accepted (view m) < total_chunks (dims_in m) + block_count (dims_in m)
       → (total_chunks (dims_in a) + block_count (dims_in a)) - accepted (view a) < (total_chunks (dims_in m) + block_count (dims_in m)) - accepted (view m)
   fewer_left m a goes l = omega (arith, goes.more, ap total_chunks goes.same_shape, ap block_count goes.same_shape)
 

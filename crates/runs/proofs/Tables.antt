@@ -11,12 +11,12 @@ use Rattle.cubes.proofs.Joins.{big_cong}
 use Rattle.cubes.proofs.ScanNumbers.{sums}
 use Rattle.runs.specs.declared.layouts.Layout.{Layout}
 use Rattle.runs.specs.Layouts.{lacked_place, mask_cells, mask_base}
-use Rattle.runs.specs.Grids.{cells_in, Narrow, Laid_out, RegionOf, lacked_at, region_at, cells_below, Bases}
+use Rattle.runs.specs.Grids.{cells_in, Narrow, LaidOut, RegionOf, lacked_at, region_at, cells_below, Bases}
 use Rattle.runs.proofs.Padding.{six_padded, group_pad, cells_in_are}
 use Rattle.runs.proofs.RegionBases.{root_base, other_base, root_cells, regions_need, region_within}
 use Rattle.runs.proofs.BlockCells.{narrow}
 
-module _ (ds : List Dim) (place : ℕ → ℕ) (adds : Group → ℕ) (divided : Divided ds) (y : Layout) (laid : Laid_out ds place y) (table : List ℕ) (root : ℕ)
+module _ (ds : List Dim) (place : ℕ → ℕ) (adds : Group → ℕ) (divided : Divided ds) (y : Layout) (laid : LaidOut ds place y) (table : List ℕ) (root : ℕ)
     (is_root : root + 1 ≡ 2 ^ length ds) (adding : (m : ℕ) → m < root → (get_or table m 0 ≡ adds (group (length ds) m)) × (get_or table m 0 < length ds)) where
   abbrev n : ℕ
   n = length ds

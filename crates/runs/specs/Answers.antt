@@ -50,9 +50,9 @@ next_chunk v ds =
     (cond (passed v == total_chunks v.dims) (Err AllPassed)
     (cond (same_dims v.dims ds) (Ok (scanned_storage v.dims (passed v))) (Err OtherShape))))
 
-abbrev pub then-chunk : {A : Type 0} → Result ℕ RunRefusal → (ℕ → Result A RunRefusal) → Result A RunRefusal
-then-chunk (Ok k) f = f k
-then-chunk (Err e) f = Err e
+abbrev pub then_chunk : {A : Type 0} → Result ℕ RunRefusal → (ℕ → Result A RunRefusal) → Result A RunRefusal
+then_chunk (Ok k) f = f k
+then_chunk (Err e) f = Err e
 
 module _ {M : Type 0} where
   -- the chunk k of the scan number s is taken if it can be read, else 16
@@ -61,7 +61,7 @@ module _ {M : Type 0} where
   take_read s k (faulty cause entry) = Err (Unreadable s k entry cause)
 
   abbrev pub take_answer : Meaning M → View → Result (Unit {0}) RunRefusal
-  take_answer σ v = then-chunk (next_chunk v σ.dims) (λ k. take_read (passed v) k (σ.chunk k))
+  take_answer σ v = then_chunk (next_chunk v σ.dims) (λ k. take_read (passed v) k (σ.chunk k))
 
   -- a chunk is skipped if it can't be read, else 21
   abbrev pub skip_read : Chunk M → Result (Unit {0}) RunRefusal
@@ -69,7 +69,7 @@ module _ {M : Type 0} where
   skip_read (faulty cause entry) = Ok tt
 
   abbrev pub skip_answer : Meaning M → View → Result (Unit {0}) RunRefusal
-  skip_answer σ v = then-chunk (next_chunk v σ.dims) (λ k. skip_read (σ.chunk k))
+  skip_answer σ v = then_chunk (next_chunk v σ.dims) (λ k. skip_read (σ.chunk k))
 
 -- Hand: 17, 22, then 23
 

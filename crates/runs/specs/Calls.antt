@@ -7,7 +7,7 @@ use Rattle.cubes.specs.Summaries.{block}
 use Rattle.cubes.specs.Handing.{Block}
 use Rattle.runs.specs.declared.refusals.RunRefusal.{RunRefusal}
 use Rattle.runs.specs.Planned.{need_of, scanned_storage, block_after, block_size}
-use Rattle.runs.specs.Answers.{View, passed, next_chunk, take_answer, skip_answer, hand_answer, one_taken, one_skipped, one_handed, fresh_view}
+use Rattle.runs.specs.Answers.{passed, next_chunk, take_answer, skip_answer, hand_answer, one_taken, one_skipped, one_handed, fresh_view}
 use Rattle.runs.specs.Holdings.{Moment, dims_in, view, planned_emptied, OthersStay, Clean, Represents}
 
 -- the cells past the need are as they were

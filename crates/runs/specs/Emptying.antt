@@ -3,7 +3,7 @@ use Rattle.std.specs.Prelude.{◌≡◌, ℕ, ◌^◌, ◌<◌, ◌≤◌, Bool,
 use Rattle.shapes.specs.declared.dims.Dim.{Dim}
 use Rattle.shapes.specs.Arrays.{Group, group}
 use Rattle.shapes.specs.Views.{dims_of}
-use Rattle.cubes.specs.Turns.{in-release}
+use Rattle.cubes.specs.Turns.{in_release}
 use Rattle.runs.specs.declared.state.State.{State}
 use Rattle.runs.specs.declared.tree.Tree.{Tree}
 use Rattle.runs.specs.declared.steps.NextBlock.{NextBlock}
@@ -18,7 +18,7 @@ use Rattle.runs.specs.Steps.{HandsOn}
 
 -- a block of the mask j is of the release of the mask k: k is j, or stands above it
 unfoldable pub of_release : List Dim → (Group → ℕ) → ℕ → ℕ → Bool
-of_release ds adds k j = in-release ds adds (group (length ds) k) (group (length ds) j)
+of_release ds adds k j = in_release ds adds (group (length ds) k) (group (length ds) j)
 
 -- the block that is next is of the release of the mask k
 abbrev pub next_of_release : List Dim → (Group → ℕ) → ℕ → Option ℕ → Bool

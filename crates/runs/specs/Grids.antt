@@ -68,7 +68,7 @@ abbrev pub block_joined : {M : Type 0} → M → (M → M → M) → List M → 
 block_joined empty op cells y r u c = box_joined empty op cells (block_edges y r) (start_of y r c) (strides_in y r) (start_of y u c) (strides_in y u)
 
 -- the layout is that of the dimensions ds at their places
-pub record Laid_out (ds : List Dim) (place : ℕ → ℕ) (y : Layout) : Type 0 where
+pub record LaidOut (ds : List Dim) (place : ℕ → ℕ) (y : Layout) : Type 0 where
   pub few : length ds ≤ 6
   pub sized : (i : ℕ) → i < length ds → slice_index y.sizes i ≡ (dim ds i).size
   pub edged : y.edges ≡ six 1 (edges ds)

@@ -1,14 +1,13 @@
 -- The life of a run: what was asked of it and answered, from its making on, and what holds of every life. Assumes nothing.
 use Rattle.std.specs.Prelude.{◌≡◌, ℕ, ◌+◌, ◌≤◌, Bool, true, false, cond, not, ◌&&◌, ◌||◌, ◌↔◌, List, [], ◌∷◌, ◌++◌, map, length, drop, is_ok, Ok, Err, Result}
-use Rattle.shapes.specs.declared.dims.Dim.{Dim}
 use Rattle.shapes.specs.Arrays.{total_chunks}
 use Rattle.sources.specs.Meanings.{Meaning, Alike}
 use Rattle.cubes.specs.Summaries.{block}
-use Rattle.cubes.specs.Handing.{Block, named, Distinct, block_count}
+use Rattle.cubes.specs.Handing.{Block, Distinct, block_count}
 use Rattle.runs.specs.declared.refusals.RunRefusal.{RunRefusal}
 use Rattle.runs.specs.declared.counts.Counts.{Counts}
 use Rattle.runs.specs.Planned.{need_of, handing_order, block_after, block_size}
-use Rattle.runs.specs.Answers.{done, take_answer, skip_answer, hand_answer, count_answer, hand_name}
+use Rattle.runs.specs.Answers.{take_answer, skip_answer, hand_answer, count_answer, hand_name}
 use Rattle.runs.specs.Holdings.{Moment, view}
 use Rattle.runs.specs.Calls.{Makes, Takes, Skips, Hands}
 
@@ -69,15 +68,15 @@ module _ {M : Type 0} where
   skips_in (hand old r new ∷ es) = skips_in es
   skips_in (count r ∷ es) = skips_in es
 
-  abbrev pub if-handed : List M → Result (ℕ × ℕ × ℕ) RunRefusal → List M → List (Handed M) → List (Handed M)
-  if-handed old (Ok x) new hs = record { name = x; old = old; new = new } ∷ hs
-  if-handed old (Err e) new hs = hs
+  abbrev pub if_handed : List M → Result (ℕ × ℕ × ℕ) RunRefusal → List M → List (Handed M) → List (Handed M)
+  if_handed old (Ok x) new hs = record { name = x; old = old; new = new } ∷ hs
+  if_handed old (Err e) new hs = hs
 
   abbrev pub hands_in : List (Event M) → List (Handed M)
   hands_in [] = []
   hands_in (take r ∷ es) = hands_in es
   hands_in (skip r ∷ es) = hands_in es
-  hands_in (hand old r new ∷ es) = if-handed old r new (hands_in es)
+  hands_in (hand old r new ∷ es) = if_handed old r new (hands_in es)
   hands_in (count r ∷ es) = hands_in es
 
   -- each hand named the block at its turn and wrote its direct summaries by offset; the rest of the buffer stayed

@@ -1,5 +1,5 @@
 -- How the state of a run goes on. Assumes nothing.
-use Rattle.std.specs.Prelude.{◌≡◌, ℕ, ◌+◌, List, length, Some, None, Ok, Err, Result}
+use Rattle.std.specs.Prelude.{◌≡◌, ℕ, ◌+◌, length, Some, Ok, Err, Result}
 use Rattle.shapes.specs.declared.shape.Shape.{Shape}
 use Rattle.shapes.specs.Arrays.{group}
 use Rattle.shapes.specs.Views.{dims_of, six}

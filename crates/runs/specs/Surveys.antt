@@ -50,7 +50,7 @@ unfoldable pub OneNext : {M : Type 0} → Meaning M → View → ℕ → Type 0
 OneNext σ v room = just_one (is_ok (take_answer σ v)) (is_ok (skip_answer σ v)) (is_ok (hand_answer v room)) ≡ true
 
 -- A run goes on over a source that means σ: n calls more were accepted; each life that it had over σ is longer now; the cells past the need are as they were
-pub record Goes_on {M : Type 0} (empty : M) (op : M → M → M) (σ : Meaning M) (n : ℕ) (b a : Moment M) : Type 0 where
+pub record GoesOn {M : Type 0} (empty : M) (op : M → M → M) (σ : Meaning M) (n : ℕ) (b a : Moment M) : Type 0 where
   pub same_shape : dims_in a ≡ dims_in b
   pub same_lent : length a.cells ≡ length b.cells
   pub more : accepted (view a) ≡ accepted (view b) + n

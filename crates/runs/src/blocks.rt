@@ -20,10 +20,10 @@ pub(crate) fn write_block<M: Measure>(
     out: &mut [M],
 ) -> usize
     requires positive { Positive (block_edges layout region) }
-    requires region_in_bounds { product (block_edges layout region) ≤ length out.old }
+    requires room { product (block_edges layout region) ≤ length out.old }
     requires inside { Inside layout region (block_edges layout region) block (length cells.now) }
     ensures count { result ≡ product (block_edges layout region) }
-    ensures out { out.new ≡ block_cells empty cells.now layout region block ++ drop (product (block_edges layout region)) out.old }
+    ensures out { out.new ≡ block_cells M.empty cells.now layout region block ++ drop (product (block_edges layout region)) out.old }
 {
     let edges = radices(region.kept, layout.edges);
     let count = box_len(edges);
@@ -40,11 +40,11 @@ pub(crate) fn join_block<M: Measure>(
     block: [u32; 6],
 )
     requires positive { Positive (block_edges layout parent) }
-    requires parent_bound { product (block_edges layout parent) < 2 ^ 64 }
-    requires inside { Inside layout parent (block_edges layout parent) block (length cells.old) }
-    requires inside_2 { Inside layout child (block_edges layout parent) block (length cells.old) }
-    requires apart_under { ApartUnder layout parent child block }
-    ensures { cells.new ≡ block_joined empty op cells.old layout parent child block }
+    requires small { product (block_edges layout parent) < 2 ^ 64 }
+    requires from_inside { Inside layout parent (block_edges layout parent) block (length cells.old) }
+    requires to_inside { Inside layout child (block_edges layout parent) block (length cells.old) }
+    requires apart { ApartUnder layout parent child block }
+    ensures { cells.new ≡ block_joined M.empty M.op cells.old layout parent child block }
 {
     let edges = radices(parent.kept, layout.edges);
     let from = grid(layout, parent, block);
@@ -83,7 +83,7 @@ pub(crate) fn join_children<M: Measure>(
     requires small { product (block_edges layout (region_by layout adds bases root mask)) < 2 ^ 64 }
     requires inside { Inside layout (region_by layout adds bases root mask) (block_edges layout (region_by layout adds bases root mask)) block (length cells.old) }
     requires joinable { (e : ℕ) → e < 6 → child_at adds mask e ≡ true → Joinable layout (region_by layout adds bases root mask) (region_by layout adds bases root (mask - 2 ^ e)) block (length cells.old) }
-    ensures { cells.new ≡ children_joined empty op cells.old layout adds bases root mask block 6 }
+    ensures { cells.new ≡ children_joined M.empty M.op cells.old layout adds bases root mask block 6 }
 {
     let parent = region_of(layout, adds, root, mask, bases[mask as usize]);
     for e in 0..6 {
@@ -98,8 +98,8 @@ pub(crate) fn join_children<M: Measure>(
 // All cells of a region become empty; the others stay.
 pub(crate) fn empty_region<M: Measure>(cells: &mut [M], layout: Layout, region: Region)
     requires narrow { Narrow layout region }
-    requires region_in_bounds { region.base + cells_in layout region ≤ length cells.old }
-    ensures { cells.new ≡ emptied empty cells.old region.base (cells_in layout region) }
+    requires room { region.base + cells_in layout region ≤ length cells.old }
+    ensures { cells.new ≡ emptied M.empty cells.old region.base (cells_in layout region) }
 {
     empty_cells(cells, region.base, region_len(layout, region));
 }
@@ -110,12 +110,12 @@ pub(crate) fn fill_root<M: Measure, S: Source<M>>(
     source: &mut S,
     number: u64,
 ) -> Result<(), SourceRefusal>
-    requires number_bound { number < total_chunks (S.Shaped.told source.old) }
-    requires source_in_bounds { volume (S.Shaped.told source.old) ≤ length cells.old }
-    ensures same { means S.Shaped.told contents source.new ≡ means S.Shaped.told contents source.old }
-    ensures sized { Sized (means S.Shaped.told contents source.old) }
-    ensures answers { result ≡ read_answer number (contents source.old number) }
-    ensures fills { cells.new ≡ cells_of empty (volume (S.Shaped.told source.old)) (contents source.old number) ++ drop (volume (S.Shaped.told source.old)) cells.old }
+    requires known { number < total_chunks (S.Shaped.told source.old) }
+    requires room { volume (S.Shaped.told source.old) ≤ length cells.old }
+    ensures same { means S.Shaped.told S.contents source.new ≡ means S.Shaped.told S.contents source.old }
+    ensures sized { Sized (means S.Shaped.told S.contents source.old) }
+    ensures answers { result ≡ read_answer number (S.contents source.old number) }
+    ensures fills { cells.new ≡ cells_of M.empty (volume (S.Shaped.told source.old)) (S.contents source.old number) ++ drop (volume (S.Shaped.told source.old)) cells.old }
 {
     source.fetch(number, cells)
 }

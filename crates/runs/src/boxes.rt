@@ -10,7 +10,7 @@ use measures::Measure;
 // The `len` cells from `base` on become empty; the rest stays.
 pub(crate) fn empty_cells<M: Measure>(cells: &mut [M], base: usize, len: usize)
     requires { base + len ≤ length cells.old }
-    ensures { cells.new ≡ emptied empty cells.old base len }
+    ensures { cells.new ≡ emptied M.empty cells.old base len }
 {
     for i in 0..len {
         cells[base + i] = M::empty();
@@ -40,7 +40,7 @@ fn cell_at<M: Measure>(cells: &[M], at: usize) -> M
 
 // What a cell holds once another is joined into it.
 fn joined<M: Measure>(below: M, above: M) -> M
-    ensures { result ≡ op below above }
+    ensures { result ≡ M.op below above }
 {
     below.join(above)
 }
@@ -54,9 +54,9 @@ fn write_row<M: Measure>(
     out: &mut [M],
     at: usize,
 )
-    requires row_within { RowWithin count from stride (length cells.now) }
-    requires count_in_bounds { at + count ≤ length out.old }
-    ensures { out.new ≡ paste out.old at (row_cells empty cells.now count from stride) count }
+    requires within { RowWithin count from stride (length cells.now) }
+    requires room { at + count ≤ length out.old }
+    ensures { out.new ≡ paste out.old at (row_cells M.empty cells.now count from stride) count }
 {
     for l in 0..count {
         out[at + l] = cell_at(cells, from + l * stride);
@@ -72,10 +72,10 @@ pub(crate) fn write_box<M: Measure>(
     out: &mut [M],
 )
     requires positive { Positive radices }
-    requires count_value { count ≡ product radices }
-    requires count_in_bounds { count ≤ length out.old }
+    requires counted { count ≡ product radices }
+    requires room { count ≤ length out.old }
     requires within { Within radices grid.start grid.strides (length cells.now) }
-    ensures { out.new ≡ box_cells empty cells.now radices grid.start grid.strides ++ drop count out.old }
+    ensures { out.new ≡ box_cells M.empty cells.now radices grid.start grid.strides ++ drop count out.old }
 {
     let along = row_dimension(radices);
     let mut rows = radices;
@@ -103,10 +103,10 @@ fn join_row<M: Measure>(
     to: usize,
     to_stride: usize,
 )
-    requires row_within { RowWithin count from from_stride (length cells.old) }
-    requires row_within_2 { RowWithin count to to_stride (length cells.old) }
-    requires rows_disjoint { RowsDisjoint count from from_stride to to_stride }
-    ensures { cells.new ≡ row_joined empty op cells.old count from from_stride to to_stride }
+    requires from_within { RowWithin count from from_stride (length cells.old) }
+    requires to_within { RowWithin count to to_stride (length cells.old) }
+    requires apart { RowsDisjoint count from from_stride to to_stride }
+    ensures { cells.new ≡ row_joined M.empty M.op cells.old count from from_stride to to_stride }
 {
     for l in 0..count {
         let above = cells[from + l * from_stride];
@@ -124,11 +124,11 @@ pub(crate) fn join_box<M: Measure>(
     count: usize,
 )
     requires positive { Positive radices }
-    requires count_value { count ≡ product radices }
-    requires within { Within radices from.start from.strides (length cells.old) }
-    requires within_2 { Within radices to.start to.strides (length cells.old) }
-    requires disjoint { Disjoint radices from.start from.strides to.start to.strides }
-    ensures { cells.new ≡ box_joined empty op cells.old radices from.start from.strides to.start to.strides }
+    requires counted { count ≡ product radices }
+    requires from_within { Within radices from.start from.strides (length cells.old) }
+    requires to_within { Within radices to.start to.strides (length cells.old) }
+    requires apart { Disjoint radices from.start from.strides to.start to.strides }
+    ensures { cells.new ≡ box_joined M.empty M.op cells.old radices from.start from.strides to.start to.strides }
 {
     let along = row_dimension(radices);
     let mut rows = radices;

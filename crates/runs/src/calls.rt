@@ -21,7 +21,7 @@ use sources::Source;
 
 // Empties the first cells, so many; where there are fewer, none is touched.
 fn empty_first<M: Measure>(cells: &mut [M], count: u64)
-    ensures { cells.new ≡ first_emptied empty count cells.old }
+    ensures { cells.new ≡ first_emptied M.empty count cells.old }
 {
     if count <= cells.len() as u64 {
         empty_cells(cells, 0, count as usize);
@@ -33,7 +33,7 @@ impl<'a, M: Measure> Run<'a, M> {
     /// Over fewer cells than the plan needs none is touched, and take, skip and hand will be refused with 17: `Plan::check` tells beforehand.
     pub fn make(shape: Shape, cells: &'a mut [M]) -> Run<'a, M>
         ensures lender { result.cells.ghost_name ≡ cells.entry.ghost_name }
-        ensures makes { Makes empty op (dims_of shape) cells.old (moment result) }
+        ensures makes { Makes M.empty M.op (dims_of shape) cells.old (moment result) }
     {
         let state = State::new(shape);
         empty_first(cells, state.need);
@@ -43,8 +43,8 @@ impl<'a, M: Measure> Run<'a, M> {
     /// Fetches the next chunk. Refused with 17, 18, 19, 20, 16.
     pub fn take<S: Source<M>>(&mut self, source: &mut S) -> Result<(), RunRefusal>
         ensures lender { self.new.cells.ghost_name ≡ self.old.cells.ghost_name }
-        ensures same { means S.Shaped.told contents source.new ≡ means S.Shaped.told contents source.old }
-        ensures takes { Takes empty op (means S.Shaped.told contents source.old) (moment self.old) result (moment self.new) }
+        ensures same { means S.Shaped.told S.contents source.new ≡ means S.Shaped.told S.contents source.old }
+        ensures takes { Takes M.empty M.op (means S.Shaped.told S.contents source.old) (moment self.old) result (moment self.new) }
     {
         let mut state = self.state;
         let answer = take_chunk(&mut state, self.cells, source);
@@ -55,8 +55,8 @@ impl<'a, M: Measure> Run<'a, M> {
     /// Passes over the next chunk if the source can't read it: it counts as empty. Refused with 17, 18, 19, 20, 21.
     pub fn skip<S: Source<M>>(&mut self, source: &mut S) -> Result<(), RunRefusal>
         ensures lender { self.new.cells.ghost_name ≡ self.old.cells.ghost_name }
-        ensures same { means S.Shaped.told contents source.new ≡ means S.Shaped.told contents source.old }
-        ensures skips { Skips empty op (means S.Shaped.told contents source.old) (moment self.old) result (moment self.new) }
+        ensures same { means S.Shaped.told S.contents source.new ≡ means S.Shaped.told S.contents source.old }
+        ensures skips { Skips M.empty M.op (means S.Shaped.told S.contents source.old) (moment self.old) result (moment self.new) }
     {
         let mut state = self.state;
         let answer = skip_chunk(&mut state, self.cells, source);
@@ -68,7 +68,7 @@ impl<'a, M: Measure> Run<'a, M> {
     /// Refused with 17, 22, 23.
     pub fn hand(&mut self, buffer: &mut [M]) -> Result<(u32, u64, usize), RunRefusal>
         ensures lender { self.new.cells.ghost_name ≡ self.old.cells.ghost_name }
-        ensures hands { Hands empty op (moment self.old) buffer.old result buffer.new (moment self.new) }
+        ensures hands { Hands M.empty M.op (moment self.old) buffer.old result buffer.new (moment self.new) }
     {
         let mut state = self.state;
         let answer = hand_block(&mut state, self.cells, buffer);
@@ -80,7 +80,7 @@ impl<'a, M: Measure> Run<'a, M> {
     pub fn count(&self) -> Counts
         ensures counts { result ≡ count_answer (view (moment self.now)) }
         ensures least { Least (dims_in (moment self.now)) }
-        ensures life { (μ : Meaning M) (es : List (Event M)) → History empty op μ es (moment self.now) → Kept empty op μ es (moment self.now) result }
+        ensures life { (μ : Meaning M) (es : List (Event M)) → History M.empty M.op μ es (moment self.now) → Kept M.empty M.op μ es (moment self.now) result }
     {
         self.state.counts()
     }
@@ -88,7 +88,7 @@ impl<'a, M: Measure> Run<'a, M> {
     /// Ends the run: its planned cells become empty. Over fewer cells than the need none is touched.
     pub fn close(self) -> Closed
         ensures closed { result ≡ close_answer (view (moment self.entry)) }
-        ensures emptied { self.exit.0.now ≡ planned_emptied empty (dims_in (moment self.entry)) self.entry.cells.now }
+        ensures emptied { self.exit.0.now ≡ planned_emptied M.empty (dims_in (moment self.entry)) self.entry.cells.now }
     {
         let Run { cells, state } = self;
         empty_first(cells, state.need);

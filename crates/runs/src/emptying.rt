@@ -38,7 +38,7 @@ fn goes_on(state: &State, mask: usize) -> bool
 fn empty_mask<M: Measure>(cells: &mut [M], state: &State, mask: usize)
     requires enough { need_of (dims_of state.now.shape) ≤ length cells.old }
     requires below { mask < 2 ^ length (dims_of state.now.shape) }
-    ensures { EmptiedMask empty (dims_of state.now.shape) mask cells.old cells.new }
+    ensures { EmptiedMask M.empty (dims_of state.now.shape) mask cells.old cells.new }
 {
     empty_region(cells, state.layout, state.region(mask));
 }
@@ -47,7 +47,7 @@ fn empty_mask<M: Measure>(cells: &mut [M], state: &State, mask: usize)
 pub(crate) fn empty_over<M: Measure>(cells: &mut [M], state: &State, from: usize)
     requires enough { need_of (dims_of state.now.shape) ≤ length cells.old }
     requires below { from < 2 ^ length (dims_of state.now.shape) }
-    ensures { EmptiedOver empty (dims_of state.now.shape) from state.now.control.next cells.old cells.new }
+    ensures { EmptiedOver M.empty (dims_of state.now.shape) from state.now.control.next cells.old cells.new }
 {
     let root = state.root();
     let mut mask = from;

@@ -19,7 +19,7 @@ fn write_next<M: Measure>(cells: &[M], state: &State, block: NextBlock, out: &mu
     requires enough { need_of (dims_of state.now.shape) ≤ length cells.now }
     requires next { IsNextBlock state.now block }
     requires room { block_size (dims_of state.now.shape) (block_after (dims_of state.now.shape) state.now.control.handed) ≤ length out.old }
-    ensures { out.new ≡ block_in empty cells.now state.now block ++ drop (block_size (dims_of state.now.shape) (block_after (dims_of state.now.shape) state.now.control.handed)) out.old }
+    ensures { out.new ≡ block_in M.empty cells.now state.now block ++ drop (block_size (dims_of state.now.shape) (block_after (dims_of state.now.shape) state.now.control.handed)) out.old }
 {
     write_block(cells, state.layout, state.region(block.mask), block.at, out);
 }
@@ -28,7 +28,7 @@ fn write_next<M: Measure>(cells: &[M], state: &State, block: NextBlock, out: &mu
 fn pass_block<M: Measure>(cells: &mut [M], state: &mut State, block: NextBlock)
     requires enough { need_of (dims_of state.old.shape) ≤ length cells.old }
     requires next { IsNextBlock state.old block }
-    ensures { PassesBlock empty op (moment_of state.old cells.old) block (moment_of state.new cells.new) }
+    ensures { PassesBlock M.empty M.op (moment_of state.old cells.old) block (moment_of state.new cells.new) }
 {
     let root = state.root();
     let bases = state.bases;
@@ -51,7 +51,7 @@ pub(crate) fn hand_block<M: Measure>(
     cells: &mut [M],
     buffer: &mut [M],
 ) -> Result<(u32, u64, usize), RunRefusal>
-    ensures { Hands empty op (moment_of state.old cells.old) buffer.old result buffer.new (moment_of state.new cells.new) }
+    ensures { Hands M.empty M.op (moment_of state.old cells.old) buffer.old result buffer.new (moment_of state.new cells.new) }
 {
     let block = state.block_to_hand(cells.len(), buffer.len())?;
     write_next(cells, state, block, buffer);

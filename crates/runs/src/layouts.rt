@@ -2,7 +2,7 @@
 ghost use Rattle.std.specs.Prelude.{◌≡◌, ℕ, ◌+◌, ◌^◌, ◌<◌, slice_index};
 ghost use Rattle.shapes.specs.Views.{dims_of};
 ghost use Rattle.plans.specs.Views.{place_in};
-ghost use Rattle.runs.specs.Grids.{Narrow, Laid_out, lacked_at, region_at, cells_below, Bases};
+ghost use Rattle.runs.specs.Grids.{Narrow, LaidOut, lacked_at, region_at, cells_below, Bases};
 
 use crate::regions::{kept_of, region_len};
 use shapes::Shape;
@@ -25,7 +25,7 @@ pub(crate) struct Region {
 
 // The layout of a shape whose dimensions have these places.
 pub(crate) fn lay_out(shape: &Shape, places: [u32; 6]) -> Layout
-    ensures { Laid_out (dims_of shape.now) (place_in places) result }
+    ensures { LaidOut (dims_of shape.now) (place_in places) result }
 {
     let d = shape.dims();
     Layout {
@@ -40,8 +40,8 @@ pub(crate) fn lay_out(shape: &Shape, places: [u32; 6]) -> Layout
 // The place of the dimension that the group with a mask lacks; 0 for the root, whose mask is the highest.
 // `adds` has by mask the dimension that the parent of a group has more.
 fn lacked_place(layout: Layout, adds: [u8; 64], root: u32, mask: u32) -> u32
-    requires mask_bound { mask < 64 }
-    requires mask_bound_2 { mask < root → slice_index adds mask < 6 }
+    requires known { mask < 64 }
+    requires lacks { mask < root → slice_index adds mask < 6 }
     ensures { result ≡ lacked_at layout adds root mask }
 {
     if mask < root {
@@ -53,8 +53,8 @@ fn lacked_place(layout: Layout, adds: [u8; 64], root: u32, mask: u32) -> u32
 
 // The region of the group with a mask, from `base` on.
 pub(crate) fn region_of(layout: Layout, adds: [u8; 64], root: u32, mask: u32, base: usize) -> Region
-    requires mask_bound { mask < 64 }
-    requires mask_bound_2 { mask < root → slice_index adds mask < 6 }
+    requires known { mask < 64 }
+    requires lacks { mask < root → slice_index adds mask < 6 }
     ensures { result ≡ region_at layout adds root mask base }
 {
     Region {

@@ -41,7 +41,7 @@ fn stride_of(region: Region, i: usize, before: usize) -> usize
 // Where the first cell of a block stands, and the strides of its region.
 pub(crate) fn grid(layout: Layout, region: Region, block: [u32; 6]) -> Grid
     requires narrow { Narrow layout region }
-    requires block_bound { start_of layout region block < 2 ^ 64 }
+    requires small { start_of layout region block < 2 ^ 64 }
     ensures start { result.start ≡ start_of layout region block }
     ensures strides { result.strides ≡ strides_in layout region }
 {
@@ -81,7 +81,7 @@ pub(crate) fn radices(flags: [bool; 6], all: [u32; 6]) -> [u32; 6]
 // How many cells a box with these radices has.
 pub(crate) fn box_len(radices: [u32; 6]) -> usize
     requires positive { Positive radices }
-    requires radices_bound { product radices < 2 ^ 64 }
+    requires small { product radices < 2 ^ 64 }
     ensures { result ≡ product radices }
 {
     let mut v: usize = 1;
@@ -118,9 +118,9 @@ fn digit_of(layout: Layout, region: Region, x: [u32; 6], i: usize) -> usize
 
 // Where a cell stands.
 pub(crate) fn cell_index(layout: Layout, region: Region, x: [u32; 6]) -> usize
-    requires by_index { (i : ℕ) → i < 6 → 0 < slice_index layout.edges i }
+    requires positive { (i : ℕ) → i < 6 → 0 < slice_index layout.edges i }
     requires narrow { Narrow layout region }
-    requires x_bound { index_of layout region x < 2 ^ 64 }
+    requires small { index_of layout region x < 2 ^ 64 }
     ensures { result ≡ index_of layout region x }
 {
     let mut at = region.base;

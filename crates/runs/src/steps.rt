@@ -4,7 +4,7 @@ ghost use Rattle.shapes.specs.Arrays.{total_chunks};
 ghost use Rattle.shapes.specs.Views.{dims_of};
 ghost use Rattle.plans.specs.Views.{Planned};
 ghost use Rattle.runs.specs.Answers.{close_answer, count_answer, done, hand_name, next_chunk, too_few, waits};
-ghost use Rattle.runs.specs.Grids.{Laid_out};
+ghost use Rattle.runs.specs.Grids.{LaidOut};
 ghost use Rattle.runs.specs.Holdings.{state_view};
 ghost use Rattle.runs.specs.Layouts.{mask_base};
 ghost use Rattle.runs.specs.Planned.{adds_of, block_after, need_of, places_of, scanned_storage};
@@ -41,7 +41,7 @@ fn plan_tree(shape: &Shape, plan: &Plan) -> Tree
 // The layout of the plan's order.
 fn plan_layout(shape: &Shape, plan: &Plan) -> Layout
     requires { Planned (dims_of shape.now) plan.now }
-    ensures { Laid_out (dims_of shape.now) (places_of (dims_of shape.now)) result }
+    ensures { LaidOut (dims_of shape.now) (places_of (dims_of shape.now)) result }
 {
     lay_out(shape, plan.order())
 }
@@ -49,7 +49,7 @@ fn plan_layout(shape: &Shape, plan: &Plan) -> Layout
 // Where the regions begin in a layout of the plan's order.
 fn plan_bases(shape: &Shape, plan: &Plan, layout: Layout) -> [usize; 64]
     requires planned { Planned (dims_of shape.now) plan.now }
-    requires laid { Laid_out (dims_of shape.now) (places_of (dims_of shape.now)) layout }
+    requires laid { LaidOut (dims_of shape.now) (places_of (dims_of shape.now)) layout }
     ensures starts { (m : ℕ) → m < 2 ^ length (dims_of shape.now) → slice_index result m ≡ mask_base (dims_of shape.now) (places_of (dims_of shape.now)) (adds_of (dims_of shape.now)) m }
     ensures long { length result ≡ 64 }
 {

@@ -5,7 +5,7 @@ ghost use Rattle.shapes.specs.Views.{dims_of};
 ghost use Rattle.sources.specs.Meanings.{means};
 ghost use Rattle.runs.specs.Holdings.{moment, planned_emptied, view};
 ghost use Rattle.runs.specs.Planned.{need_of};
-ghost use Rattle.runs.specs.Surveys.{Goes_on, OneNext, chunk_emptied, lent_answer, survey_answer, survey_counts};
+ghost use Rattle.runs.specs.Surveys.{GoesOn, OneNext, chunk_emptied, lent_answer, survey_answer, survey_counts};
 
 use crate::boxes::empty_cells;
 use crate::counts::Counts;
@@ -18,10 +18,10 @@ use sources::{Shaped, Source};
 
 // Makes the call that is next: a hand while a block waits, else a take, and a skip where the chunk can't be read.
 fn step<M: Measure, S: Source<M>>(run: &mut Run<M>, source: &mut S, buffer: &mut [M])
-    requires { OneNext (means S.Shaped.told contents source.old) (view (moment run.old)) (length buffer.old) }
+    requires { OneNext (means S.Shaped.told S.contents source.old) (view (moment run.old)) (length buffer.old) }
     ensures lender { run.new.cells.ghost_name ≡ run.old.cells.ghost_name }
-    ensures same { means S.Shaped.told contents source.new ≡ means S.Shaped.told contents source.old }
-    ensures goes { Goes_on empty op (means S.Shaped.told contents source.old) 1 (moment run.old) (moment run.new) }
+    ensures same { means S.Shaped.told S.contents source.new ≡ means S.Shaped.told S.contents source.old }
+    ensures goes { GoesOn M.empty M.op (means S.Shaped.told S.contents source.old) 1 (moment run.old) (moment run.new) }
     ensures rest { drop (volume (dims_of run.old.state.shape)) buffer.new ≡ drop (volume (dims_of run.old.state.shape)) buffer.old }
 {
     if run.hand(buffer).is_err() && run.take(source).is_err() {
@@ -51,10 +51,10 @@ fn run_through<M: Measure, S: Source<M>>(
     requires shaped { dims_of shape ≡ S.Shaped.told source.old }
     requires enough { need_of (dims_of shape) ≤ length cells.old }
     requires room { volume (dims_of shape) ≤ length buffer.old }
-    ensures same { means S.Shaped.told contents source.new ≡ means S.Shaped.told contents source.old }
-    ensures counts { result ≡ survey_counts (means S.Shaped.told contents source.old) }
-    ensures emptied { cells.new ≡ planned_emptied empty (dims_of shape) cells.old }
-    ensures buffer { buffer.new ≡ chunk_emptied empty (dims_of shape) buffer.old }
+    ensures same { means S.Shaped.told S.contents source.new ≡ means S.Shaped.told S.contents source.old }
+    ensures counts { result ≡ survey_counts (means S.Shaped.told S.contents source.old) }
+    ensures emptied { cells.new ≡ planned_emptied M.empty (dims_of shape) cells.old }
+    ensures buffer { buffer.new ≡ chunk_emptied M.empty (dims_of shape) buffer.old }
 {
     let mut run = Run::make(shape, cells);
     'turns: while !run.count().done {
@@ -75,10 +75,10 @@ pub fn survey<M: Measure, S: Source<M>>(
     cells: &mut [M],
     buffer: &mut [M],
 ) -> Result<Counts, RunRefusal>
-    ensures same { means S.Shaped.told contents source.new ≡ means S.Shaped.told contents source.old }
-    ensures answers { result ≡ survey_answer (means S.Shaped.told contents source.old) (length cells.old) (length buffer.old) }
+    ensures same { means S.Shaped.told S.contents source.new ≡ means S.Shaped.told S.contents source.old }
+    ensures answers { result ≡ survey_answer (means S.Shaped.told S.contents source.old) (length cells.old) (length buffer.old) }
     ensures refused { is_ok result ≡ false → (cells.new ≡ cells.old) × (buffer.new ≡ buffer.old) }
-    ensures emptied { is_ok result ≡ true → (cells.new ≡ planned_emptied empty (S.Shaped.told source.old) cells.old) × (buffer.new ≡ chunk_emptied empty (S.Shaped.told source.old) buffer.old) }
+    ensures emptied { is_ok result ≡ true → (cells.new ≡ planned_emptied M.empty (S.Shaped.told source.old) cells.old) × (buffer.new ≡ chunk_emptied M.empty (S.Shaped.told source.old) buffer.old) }
 {
     let shape = source.shape();
     check_lent(&shape, cells.len(), buffer.len())?;

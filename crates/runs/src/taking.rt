@@ -17,8 +17,8 @@ pub(crate) fn take_chunk<M: Measure, S: Source<M>>(
     cells: &mut [M],
     source: &mut S,
 ) -> Result<(), RunRefusal>
-    ensures same { means S.Shaped.told contents source.new ≡ means S.Shaped.told contents source.old }
-    ensures takes { Takes empty op (means S.Shaped.told contents source.old) (moment_of state.old cells.old) result (moment_of state.new cells.new) }
+    ensures same { means S.Shaped.told S.contents source.new ≡ means S.Shaped.told S.contents source.old }
+    ensures takes { Takes M.empty M.op (means S.Shaped.told S.contents source.old) (moment_of state.old cells.old) result (moment_of state.new cells.new) }
 {
     let shape = source.shape();
     let number = state.chunk_to_pass(cells.len(), &shape)?;
@@ -49,8 +49,8 @@ pub(crate) fn skip_chunk<M: Measure, S: Source<M>>(
     cells: &mut [M],
     source: &mut S,
 ) -> Result<(), RunRefusal>
-    ensures same { means S.Shaped.told contents source.new ≡ means S.Shaped.told contents source.old }
-    ensures skips { Skips empty op (means S.Shaped.told contents source.old) (moment_of state.old cells.old) result (moment_of state.new cells.new) }
+    ensures same { means S.Shaped.told S.contents source.new ≡ means S.Shaped.told S.contents source.old }
+    ensures skips { Skips M.empty M.op (means S.Shaped.told S.contents source.old) (moment_of state.old cells.old) result (moment_of state.new cells.new) }
 {
     let shape = source.shape();
     let number = state.chunk_to_pass(cells.len(), &shape)?;

@@ -21,8 +21,8 @@ pub(crate) struct Walk {
 // The next digits, the first changing fastest; after the last come the first.
 pub(crate) fn advance(walk: Walk, radices: [u32; 6], from: [usize; 6], to: [usize; 6]) -> Walk
     requires below { Below radices walk.at }
-    requires at_bound { (dot from walk.at ≤ walk.from) × (dot to walk.at ≤ walk.to) }
-    requires at_bound_2 { (walk.from + dot from (next_digits radices walk.at) < 2 ^ 64 + dot from walk.at) × (walk.to + dot to (next_digits radices walk.at) < 2 ^ 64 + dot to walk.at) }
+    requires reached { (dot from walk.at ≤ walk.from) × (dot to walk.at ≤ walk.to) }
+    requires fits { (walk.from + dot from (next_digits radices walk.at) < 2 ^ 64 + dot from walk.at) × (walk.to + dot to (next_digits radices walk.at) < 2 ^ 64 + dot to walk.at) }
     ensures at { result.at ≡ next_digits radices walk.at }
     ensures from { result.from + dot from walk.at ≡ walk.from + dot from (next_digits radices walk.at) }
     ensures to { result.to + dot to walk.at ≡ walk.to + dot to (next_digits radices walk.at) }

@@ -1,11 +1,11 @@
 -- What a shape holds, dimension by dimension.
-use Rattle.std.proofs.Common.{◌≡◌, ℕ, zero, suc, ◌+◌, ◌/◌, ◌%◌, ◌^◌, ◌<◌, ◌≤◌, List, [], ◌∷◌, map, length, get_or, take, set, sym, refl, ap, ◌∙◌, subst, arith}
+use Rattle.std.proofs.Common.{◌≡◌, ℕ, zero, suc, ◌+◌, ◌/◌, ◌%◌, ◌^◌, ◌<◌, ◌≤◌, List, [], ◌∷◌, length, get_or, take, set, sym, refl, ap, ◌∙◌, subst, arith}
 use Rattle.std.specs.List.{AllByRecursion as All}
-use Rattle.std.proofs.lemmas.List.{length-take, length-map, get_or-take, get_or_default, get_or-map, take_all}
-use Rattle.std.proofs.ByRecursion.{All_from_get_or}
+use Rattle.std.proofs.lemmas.List.{length-take, get_or-take, get_or_default, get_or-map, take_all}
+use Rattle.std.proofs.ByRecursion.{All-from_get_or}
 use Rattle.shapes.specs.declared.dims.Dim.{Dim}
 use Rattle.shapes.specs.declared.shape.Shape.{Shape}
-use Rattle.shapes.specs.Arrays.{product, counts, edges, none_dim, dim, chunk_of, local_of, chunks, volume, total_chunks, extent}
+use Rattle.shapes.specs.Arrays.{counts, edges, none_dim, dim, chunk_of, local_of, chunks, total_chunks}
 use Rattle.shapes.specs.Limits.{Fit, Limits}
 use Rattle.shapes.specs.Views.{dims_of, six}
 use Rattle.shapes.proofs.Sixes.{six_more}
@@ -28,7 +28,7 @@ module _ (s : Shape) where
   dim_fits i h = subst Fit (dim_held i none_dim h) (s.each i h)
 
   pub all_fit : All Fit (dims_of s)
-  all_fit = All_from_get_or Fit (dims_of s) none_dim (λ i h. dim_fits i (omega (arith, dims_long)))
+  all_fit = All-from_get_or Fit (dims_of s) none_dim (λ i h. dim_fits i (omega (arith, dims_long)))
 
   pub limits : Limits (dims_of s)
   limits = record { some_dims = omega (arith, dims_long, s.few.0); few_dims = dims_few; each = all_fit; small_chunk = s.small_chunk; small_array = s.small_array }

@@ -8,3 +8,4 @@ pub mod Masks
 pub mod Bits
 pub mod Numbering
 pub mod Insides
+pub mod Compared

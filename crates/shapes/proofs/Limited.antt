@@ -1,12 +1,12 @@
 -- What the check of a shape finds, and the limits that a shape keeps.
-use Rattle.std.proofs.Common.{◌≡◌, ℕ, ◌+◌, ◌*◌, ◌%◌, ◌^◌, ◌<◌, ◌≤◌, Bool, true, false, cond, ◌||◌, eqb, ltb, ◌⊎◌, ◌↔◌, List, [], ◌∷◌, map, length, get_or, take, replicate, is_ok, Some, None, Ok, Err, Option, Result, sym, refl, ap, ◌∙◌, subst, ⊎_elim, arith, MatchResult}
+use Rattle.std.proofs.Common.{◌≡◌, ℕ, ◌+◌, ◌^◌, ◌<◌, ◌≤◌, Bool, true, false, ◌||◌, ltb, ◌⊎◌, ◌↔◌, List, [], ◌∷◌, length, get_or, is_ok, Some, None, Ok, Err, Option, Result, sym, refl, ap, ◌∙◌, subst, ⊎_elim, arith, MatchResult}
 use Rattle.std.specs.List.{AllByRecursion as All}
 use Rattle.std.proofs.lemmas.Bool.Decides.{nat_tests}
 use Rattle.std.proofs.ByRecursion.{All-get_or}
 use Rattle.std.proofs.lemmas.List.{get_or_past}
 use Rattle.std.proofs.lemmas.Bool.{lt-ltb, le-ltb, cases_lt}
 use Rattle.shapes.specs.declared.dims.Dim.{Dim}
-use Rattle.shapes.specs.Arrays.{product, volume, extent, none_dim}
+use Rattle.shapes.specs.Arrays.{volume, extent, none_dim}
 use Rattle.shapes.specs.Views.{six}
 use Rattle.shapes.proofs.Sixes.{six_at}
 use Rattle.shapes.specs.Limits.{Fit, Limits, Refusal, or_else, refused_if, dim_fault, dims_fault, shape_fault}

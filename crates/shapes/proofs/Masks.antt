@@ -1,5 +1,5 @@
 -- Masks and groups.
-use Rattle.std.proofs.Common.{◌≡◌, ℕ, zero, suc, ◌+◌, ◌-◌, ◌*◌, ◌/◌, ◌%◌, ◌^◌, ◌<◌, ◌≤◌, Bool, true, false, cond, eqb, List, [], ◌∷◌, length, set, sym, refl, ap, ◌∙◌, one-add, arith}
+use Rattle.std.proofs.Common.{◌≡◌, ℕ, zero, suc, ◌+◌, ◌-◌, ◌*◌, ◌/◌, ◌%◌, ◌^◌, ◌<◌, Bool, true, false, cond, eqb, [], ◌∷◌, length, set, sym, refl, ap, ◌∙◌, one-add, arith}
 use native.Mathlib.Nat.{pow-succ', one-le-pow}
 use lib.Bits.{bit_and}
 use Rattle.std.specs.List.{prefix_len}

@@ -1,11 +1,11 @@
 -- Products of lists, and of their fronts.
-use Rattle.std.proofs.Common.{◌≡◌, ℕ, zero, suc, ◌+◌, ◌-◌, ◌*◌, ◌/◌, ◌%◌, ◌<◌, ◌≤◌, List, [], ◌∷◌, ◌++◌, map, length, get_or, take, drop, replicate, sym, refl, ap, ◌∙◌, add-zero, mul_assoc, one-mul, arith}
+use Rattle.std.proofs.Common.{◌≡◌, ℕ, zero, suc, ◌+◌, ◌*◌, ◌/◌, ◌<◌, ◌≤◌, List, [], ◌∷◌, ◌++◌, map, length, get_or, take, drop, replicate, sym, refl, ap, ◌∙◌, add-zero, mul_assoc, one-mul, arith}
 use Rattle.std.specs.List.{AllByRecursion as All}
 use Rattle.std.proofs.lemmas.Nat.{mul-le, le-div, div-mul-add, div-add-mod'}
 use Rattle.std.proofs.lemmas.List.{take_more, take-append-drop}
-use Rattle.std.proofs.ByRecursion.{All-drop, All_from_get_or}
+use Rattle.std.proofs.ByRecursion.{All-drop}
 use Rattle.shapes.specs.declared.dims.Dim.{Dim}
-use Rattle.shapes.specs.Arrays.{product, chunks, volume, extent, total_chunks, none_dim, sizes, edges}
+use Rattle.shapes.specs.Arrays.{product, chunks, volume, extent, total_chunks}
 use Rattle.shapes.specs.Limits.{Fit}
 use Rattle.shapes.specs.Views.{six}
 

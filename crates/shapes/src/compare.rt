@@ -1,9 +1,7 @@
 // Shapes compared.
-ghost use Rattle.std.specs.Prelude.{◌≡◌, true, Decides};
-ghost use Rattle.shapes.specs.Views.{dims_of};
-ghost use Rattle.std.specs.Cmp.Rules.{comparing};
-ghost use Rattle.std.proofs.Common.{rules, arith};
-ghost use Rattle.std.specs.Cmp as Keys;
+ghost use Rattle.std.specs.Prelude.{◌≡◌, Decides};
+ghost use Rattle.std.specs.Cmp.{partial_equiv_from_equiv};
+ghost use Rattle.shapes.specs.Views.{dims_of, same_shape, same_shape_equiv};
 
 use crate::dims::Dim;
 use crate::shape::Shape;
@@ -16,11 +14,14 @@ fn same_dim(a: Dim, b: Dim) -> bool
 
 /// Shapes are equal exactly when they have the same dimensions.
 impl PartialEq for Shape {
-    ghost equals = { λ a b r. Decides r (dims_of a ≡ dims_of b) };
+    ghost eq = { same_shape };
 
-    ghost laws = { Keys.partial_equiv_from_equiv (first_of (Prim.search (comparing, rules), Prim.grind (arith, Self.row.coded.inj))) };
+    ghost laws = { partial_equiv_from_equiv same_shape_equiv };
 
-    fn eq(&self, other: &Shape) -> bool {
+    fn eq(&self, other: &Shape) -> bool
+        ensures value { result ≡ same_shape self.now other.now }
+        ensures decides { Decides result (dims_of self.now ≡ dims_of other.now) }
+    {
         if self.n != other.n {
             return false;
         }
@@ -34,5 +35,5 @@ impl PartialEq for Shape {
 }
 
 impl Eq for Shape {
-    ghost laws = { first_of (Prim.search (comparing, rules), Prim.grind (arith, Self.row.coded.inj)) };
+    ghost laws = { same_shape_equiv };
 }

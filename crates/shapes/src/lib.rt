@@ -1,4 +1,6 @@
 // Shapes of chunked arrays.
+#![tactic(auto)]
+
 mod checks;
 mod compare;
 mod dims;

@@ -12,7 +12,7 @@ use Rattle.shapes.proofs.Held.{dims_few, all_fit}
 use Rattle.shapes.proofs.Numbering.{below_length}
 use Rattle.sources.specs.declared.rows.Row.{Row}
 use Rattle.sources.specs.Readings.{is_reading}
-use Rattle.sources.specs.Rows.{in-range, place}
+use Rattle.sources.specs.Rows.{in_range, place}
 
 -- a list of digits filled up with zeros
 inside_zeros : (n m : ℕ) → inside [] (take n (replicate m 0)) ≡ true
@@ -62,7 +62,7 @@ locals_below (d ∷ ds) (x ∷ xs) fit h =
     let b = and_parts (ltb x d.size) (inside (sizes ds) xs) h in
     (mod-lt x fit.0.2, locals_below ds xs fit.1 b.1)
 
-module _ (s : Shape) (r : Row) (in-it : in-range (dims_of s) r ≡ true) where
+module _ (s : Shape) (r : Row) (in-it : in_range (dims_of s) r ≡ true) where
   inside_it : inside (sizes (dims_of s)) r.at ≡ true
   inside_it = (and_parts (inside (sizes (dims_of s)) r.at) (is_reading r.reading) in-it).0
 
@@ -96,4 +96,4 @@ module _ (s : Shape) (r : Row) (in-it : in-range (dims_of s) r ≡ true) where
       let a : p ≡ storage (dims_of s) r.at = cc in
       let b : q ≡ offset (dims_of s) r.at = cc in
       let pair : ℕ → ℕ → Option (ℕ × ℕ) = λ x y. Some (x, y) in
-      ap₂ pair a b ∙ sym (cond-true (in-range (dims_of s) r) (pair (storage (dims_of s) r.at) (offset (dims_of s) r.at)) None in-it)
+      ap₂ pair a b ∙ sym (cond-true (in_range (dims_of s) r) (pair (storage (dims_of s) r.at) (offset (dims_of s) r.at)) None in-it)

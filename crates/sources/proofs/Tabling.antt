@@ -10,7 +10,7 @@ use Rattle.shapes.specs.Arrays.{storage, offset}
 use Rattle.measures.specs.Laws.{Lawful}
 use Rattle.sources.specs.declared.rows.Row.{Row}
 use Rattle.sources.specs.Joins.{joined_with, joined_at}
-use Rattle.sources.specs.Rows.{in-range, on_cell, place, row_value}
+use Rattle.sources.specs.Rows.{in_range, on_cell, place, row_value}
 use Rattle.sources.proofs.Joining.{joined_miss, joined_hit, joined_fresh}
 
 -- whether a row lies on a cell, by its place
@@ -33,15 +33,15 @@ place_here false s t p q h k o e = let z : ◌≡◌ {A = ℕ} 0 1 = cc in absur
 module _ {M : Type 0} {empty : M} {op : M → M → M} (lawful : Lawful empty op) (lifted : Reading → M) where
   module _ (ds : List Dim) (r : Row) (k : ℕ) (vs : List M) where
     pub row_nowhere : place ds r ≡ None → vs ≡ joined_with empty op (row_value empty op lifted ds (r ∷ []) k) vs
-    row_nowhere h = joined_miss lawful lifted (on_cell ds k) (λ (x : Row). x.reading) r vs (λ o. place_miss (in-range ds r) (storage ds r.at) (offset ds r.at) h k o)
+    row_nowhere h = joined_miss lawful lifted (on_cell ds k) (λ (x : Row). x.reading) r vs (λ o. place_miss (in_range ds r) (storage ds r.at) (offset ds r.at) h k o)
 
     pub row_elsewhere : (p q : ℕ) → place ds r ≡ Some (p, q) → (p ≡ k → ⊥) → vs ≡ joined_with empty op (row_value empty op lifted ds (r ∷ []) k) vs
     row_elsewhere p q h ne =
-        joined_miss lawful lifted (on_cell ds k) (λ (x : Row). x.reading) r vs (λ o. place_other (in-range ds r) (storage ds r.at) (offset ds r.at) p q h k o ne)
+        joined_miss lawful lifted (on_cell ds k) (λ (x : Row). x.reading) r vs (λ o. place_other (in_range ds r) (storage ds r.at) (offset ds r.at) p q h k o ne)
 
     pub row_here : (p q : ℕ) → place ds r ≡ Some (p, q) → p ≡ k → joined_at empty op lifted vs q r.reading ≡ joined_with empty op (row_value empty op lifted ds (r ∷ []) k) vs
     row_here p q h e =
-        joined_hit lawful lifted (on_cell ds k) (λ (x : Row). x.reading) r q vs (λ o. place_here (in-range ds r) (storage ds r.at) (offset ds r.at) p q h k o e)
+        joined_hit lawful lifted (on_cell ds k) (λ (x : Row). x.reading) r q vs (λ o. place_here (in_range ds r) (storage ds r.at) (offset ds r.at) p q h k o e)
 
   -- cells that were emptied and then joined with a value each
   pub fresh_cells : (f : ℕ → M) (v w : ℕ) (xs ys zs : List M) → v ≡ w → v ≤ length xs → ys ≡ replicate (length (take (v - 0) xs)) empty → zs ≡ joined_with empty op f ys

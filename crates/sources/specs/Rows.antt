@@ -11,16 +11,16 @@ use Rattle.sources.specs.Meanings.{Chunk, values}
 use Rattle.sources.specs.Readings.{is_reading, lifts}
 
 -- a row in range: each coordinate is below its size, and 0 past the last dimension; the reading is one
-abbrev pub in-range : List Dim → Row → Bool
-in-range ds r = inside (sizes ds) r.at && is_reading r.reading
+abbrev pub in_range : List Dim → Row → Bool
+in_range ds r = inside (sizes ds) r.at && is_reading r.reading
 
 -- a row that is in range lies on the cell at offset o of chunk k
 abbrev pub on_cell : List Dim → ℕ → ℕ → Row → Bool
-on_cell ds k o r = in-range ds r && (storage ds r.at == k && offset ds r.at == o)
+on_cell ds k o r = in_range ds r && (storage ds r.at == k && offset ds r.at == o)
 
 -- the storage number and the offset of a row's cell; a row out of range belongs to none
 abbrev pub place : List Dim → Row → Option (ℕ × ℕ)
-place ds r = cond (in-range ds r) (Some (storage ds r.at, offset ds r.at)) None
+place ds r = cond (in_range ds r) (Some (storage ds r.at, offset ds r.at)) None
 
 -- the readings of all rows on a cell, in the order of the rows
 abbrev pub cell_readings : List Dim → List Row → ℕ → ℕ → List ℕ
@@ -38,7 +38,7 @@ module _ {M : Type 0} (empty : M) (op : M → M → M) (lifted : Reading → M) 
 -- the first row out of range, of rows that are numbered from i on
 abbrev pub first_outside : List Dim → ℕ → List Row → Option ℕ
 first_outside ds i [] = None
-first_outside ds i (r ∷ rows) = cond (in-range ds r) (first_outside ds (i + 1) rows) (Some i)
+first_outside ds i (r ∷ rows) = cond (in_range ds r) (first_outside ds (i + 1) rows) (Some i)
 
 abbrev pub refuse_row : Option ℕ → Result (Unit {0}) RowRefusal
 refuse_row None = Ok tt

@@ -7,7 +7,7 @@ use shapes::Reading;
 
 /// Makes every cell empty.
 pub fn empty_cells<M: Measure>(cells: &mut [M])
-    ensures { cells.new ≡ replicate (length cells.old) empty }
+    ensures { cells.new ≡ replicate (length cells.old) M.empty }
 {
     for cell in cells.iter_mut() {
         *cell = M::empty();
@@ -16,7 +16,7 @@ pub fn empty_cells<M: Measure>(cells: &mut [M])
 
 // Joins the lift of a reading to one cell. A number that is no reading, and an offset past the last cell, change nothing.
 pub(crate) fn join_reading<M: Measure>(cells: &mut [M], offset: u32, reading: u32)
-    ensures { cells.new ≡ joined_at empty op lifted cells.old offset reading }
+    ensures { cells.new ≡ joined_at M.empty M.op M.lifted cells.old offset reading }
 {
     let at = offset as usize;
     let Some(reading) = Reading::new(reading) else {

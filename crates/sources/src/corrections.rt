@@ -13,7 +13,7 @@ use shapes::{Reading, Shape};
 
 // Joins a correction to its cell, where that lies in the chunk with this number.
 fn correct<M: Measure>(correction: Correction, number: u64, cells: &mut [M])
-    ensures { cells.new ≡ joined_with empty op (correction_value empty op lifted (correction ∷ []) number) cells.old }
+    ensures { cells.new ≡ joined_with M.empty M.op (correction_value M.empty M.op M.lifted (correction ∷ []) number) cells.old }
 {
     if correction.number == number {
         join_reading(cells, correction.offset, correction.reading);
@@ -21,7 +21,7 @@ fn correct<M: Measure>(correction: Correction, number: u64, cells: &mut [M])
 }
 
 fn correct_all<M: Measure>(held: &[Correction], number: u64, cells: &mut [M])
-    ensures { cells.new ≡ joined_with empty op (correction_value empty op lifted held.now number) cells.old }
+    ensures { cells.new ≡ joined_with M.empty M.op (correction_value M.empty M.op M.lifted held.now number) cells.old }
 {
     for correction in held {
         correct(*correction, number, cells);
@@ -84,8 +84,8 @@ impl<S> Corrections<S> {
 impl<S: Shaped> Corrections<S> {
     /// One correction more. Where it is refused, the table stays as it was.
     pub fn add(&mut self, correction: Correction) -> Result<(), CorrectionRefusal>
-        ensures answers { result ≡ add_answer (told self.old.below) (held_in self.old.table) correction }
-        ensures table { held_in self.new.table ≡ held_after (told self.old.below) (held_in self.old.table) correction }
+        ensures answers { result ≡ add_answer (S.told self.old.below) (held_in self.old.table) correction }
+        ensures table { held_in self.new.table ≡ held_after (S.told self.old.below) (held_in self.old.table) correction }
         ensures below { self.new.below ≡ self.old.below }
     {
         let shape = self.below.shape();
@@ -102,7 +102,7 @@ impl<S: Shaped> Shaped for Corrections<S> {
 }
 
 impl<M: Measure, S: Source<M>> Source<M> for Corrections<S> {
-    ghost contents = { λ s k. corrected empty op lifted (held_in s.table) k (S.Source.contents s.below k) };
+    ghost contents = { λ s k. corrected M.empty M.op M.lifted (held_in s.table) k (S.Source.contents s.below k) };
 
     fn fetch(&mut self, number: u64, into: &mut [M]) -> Result<(), SourceRefusal> {
         self.below.fetch(number, into)?;

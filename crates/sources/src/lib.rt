@@ -1,4 +1,6 @@
 // Sources of chunks, over any measure: a table of rows, and a layer of corrections over any source.
+#![tactic(auto)]
+
 mod cells;
 mod corrections;
 mod refusals;

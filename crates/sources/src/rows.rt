@@ -3,7 +3,7 @@ ghost use Rattle.std.specs.Prelude.{◌≡◌, [], ◌∷◌};
 ghost use Rattle.shapes.specs.Arrays.{inside, sizes};
 ghost use Rattle.shapes.specs.Views.{dims_of};
 ghost use Rattle.sources.specs.Joins.{joined_with};
-ghost use Rattle.sources.specs.Rows.{in-range, place, row_value, row_chunks, rows_answer};
+ghost use Rattle.sources.specs.Rows.{in_range, place, row_value, row_chunks, rows_answer};
 
 use crate::cells::{empty_cells, join_reading};
 use crate::refusals::{RowRefusal, SourceRefusal};
@@ -40,7 +40,7 @@ fn is_inside(shape: &Shape, at: [u32; 6]) -> bool
 }
 
 fn is_in_range(shape: &Shape, row: Row) -> bool
-    ensures { result ≡ in-range (dims_of shape.now) row }
+    ensures { result ≡ in_range (dims_of shape.now) row }
 {
     is_inside(shape, row.at) && row.reading <= Reading::LIMIT
 }
@@ -61,7 +61,7 @@ impl Row {
 
 // Joins a row to its cell, where that lies in the chunk with this number.
 fn join_row<M: Measure>(shape: &Shape, row: Row, number: u64, cells: &mut [M])
-    ensures { cells.new ≡ joined_with empty op (row_value empty op lifted (dims_of shape.now) (row ∷ []) number) cells.old }
+    ensures { cells.new ≡ joined_with M.empty M.op (row_value M.empty M.op M.lifted (dims_of shape.now) (row ∷ []) number) cells.old }
 {
     let Some((chunk, offset)) = row.place(shape) else {
         return;
@@ -72,7 +72,7 @@ fn join_row<M: Measure>(shape: &Shape, row: Row, number: u64, cells: &mut [M])
 }
 
 fn join_rows<M: Measure>(shape: &Shape, rows: &[Row], number: u64, cells: &mut [M])
-    ensures { cells.new ≡ joined_with empty op (row_value empty op lifted (dims_of shape.now) rows.now number) cells.old }
+    ensures { cells.new ≡ joined_with M.empty M.op (row_value M.empty M.op M.lifted (dims_of shape.now) rows.now number) cells.old }
 {
     for row in rows {
         join_row(shape, *row, number, cells);
@@ -109,7 +109,7 @@ impl<'a> Shaped for RowTable<'a> {
 }
 
 impl<'a, M: Measure> Source<M> for RowTable<'a> {
-    ghost contents = { λ s. row_chunks empty op lifted (dims_of s.shape) s.rows.now };
+    ghost contents = { λ s. row_chunks M.empty M.op M.lifted (dims_of s.shape) s.rows.now };
 
     fn fetch(&mut self, number: u64, into: &mut [M]) -> Result<(), SourceRefusal> {
         let v = check_room(&self.shape, number, into.len())?;

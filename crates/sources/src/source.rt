@@ -29,7 +29,7 @@ pub trait Source<M: Measure>: Shaped {
         ensures same { means Self.Shaped.told contents self.new ≡ means Self.Shaped.told contents self.old }
         ensures sized { Sized (means Self.Shaped.told contents self.old) }
         ensures answers { result ≡ fetch_answer (means Self.Shaped.told contents self.old) number (length into.old) }
-        ensures fills { into.new ≡ cells_after empty (means Self.Shaped.told contents self.old) number into.old };
+        ensures fills { into.new ≡ cells_after M.empty (means Self.Shaped.told contents self.old) number into.old };
 }
 
 /// How every fetch begins: V, the number of cells that it fills, or 14 or 15.
@@ -53,10 +53,10 @@ pub fn fetch_twice<M: Measure, S: Source<M>>(
     first: &mut [M],
     second: &mut [M],
 ) -> (Result<(), SourceRefusal>, Result<(), SourceRefusal>)
-    ensures same { means S.Shaped.told contents source.new ≡ means S.Shaped.told contents source.old }
-    ensures first { (result.0 ≡ fetch_answer (means S.Shaped.told contents source.old) number (length first.old)) × (first.new ≡ cells_after empty (means S.Shaped.told contents source.old) number first.old) }
-    ensures second { (result.1 ≡ fetch_answer (means S.Shaped.told contents source.old) number (length second.old)) × (second.new ≡ cells_after empty (means S.Shaped.told contents source.old) number second.old) }
-    ensures alike { AnsweredAlike (means S.Shaped.told contents source.old) number first.old second.old first.new second.new result.0 result.1 }
+    ensures same { means S.Shaped.told S.contents source.new ≡ means S.Shaped.told S.contents source.old }
+    ensures first { (result.0 ≡ fetch_answer (means S.Shaped.told S.contents source.old) number (length first.old)) × (first.new ≡ cells_after M.empty (means S.Shaped.told S.contents source.old) number first.old) }
+    ensures second { (result.1 ≡ fetch_answer (means S.Shaped.told S.contents source.old) number (length second.old)) × (second.new ≡ cells_after M.empty (means S.Shaped.told S.contents source.old) number second.old) }
+    ensures alike { AnsweredAlike (means S.Shaped.told S.contents source.old) number first.old second.old first.new second.new result.0 result.1 }
 {
     (source.fetch(number, first), source.fetch(number, second))
 }

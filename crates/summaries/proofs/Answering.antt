@@ -1,7 +1,6 @@
 -- What is answered for one summary cell, case by case.
-use Rattle.std.proofs.Common.{◌≡◌, ℕ, ◌^◌, ◌<◌, Bool, true, false, cond, ◌&&◌, ltb, List, ◌++◌, length, drop, replicate, is_ok, Some, None, Ok, Err, Option, Result, sym, refl, ap, ◌∙◌, arith}
+use Rattle.std.proofs.Common.{◌≡◌, ℕ, ◌^◌, Bool, true, false, cond, ◌&&◌, ltb, List, ◌++◌, length, drop, replicate, is_ok, Some, None, Ok, Err, Result, sym, refl, ap, arith}
 use Rattle.std.specs.Option.{option_map}
-use Rattle.std.proofs.lemmas.Bool.{ltb-true}
 use Rattle.shapes.specs.Arrays.{Group, group, group_of, sizes, volume}
 use Rattle.shapes.specs.Views.{six}
 use Rattle.sources.specs.Meanings.{Meaning}

@@ -1,15 +1,15 @@
 -- A direct summary, chunk by chunk and offset by offset.
-use Rattle.std.proofs.Common.{◌≡◌, ℕ, ◌+◌, ◌*◌, ◌<◌, ◌≤◌, Bool, true, false, cond, ◌&&◌, List, [], ◌∷◌, map, length, get_or, sym, refl, ap, ◌∙◌, ap₂, arith}
+use Rattle.std.proofs.Common.{◌≡◌, ℕ, ◌+◌, ◌*◌, ◌<◌, Bool, cond, ◌&&◌, List, [], ◌∷◌, length, get_or, sym, refl, ap, ◌∙◌, ap₂, arith}
 use Rattle.std.proofs.lemmas.List.{length-map}
 use Rattle.shapes.specs.declared.dims.Dim.{Dim}
-use Rattle.shapes.specs.Arrays.{Group, Below, product, number, digits, sizes, edges, counts, chunks, volume, total_chunks, cell_at, chunk_of, local_of, storage, offset, agrees}
+use Rattle.shapes.specs.Arrays.{Group, number, digits, sizes, edges, counts, chunks, volume, total_chunks, cell_at, storage, offset, agrees}
 use Rattle.shapes.proofs.Numbering.{length_digits, digits_below, number_digits}
 use Rattle.measures.specs.Laws.{Lawful}
-use Rattle.sources.specs.Meanings.{Chunk, values, faulty, Meaning}
+use Rattle.sources.specs.Meanings.{Meaning}
 use Rattle.cubes.specs.Meanings.{is_readable, values_of}
 use Rattle.cubes.specs.Summaries.{Divided, big, readable, value, direct}
 use Rattle.summaries.specs.Answers.{brings}
-use Rattle.cubes.proofs.Joins.{nest, big_cong, big_swap, big_mul, big_cond, nest_cong, nest_digits, total_kept_digits}
+use Rattle.cubes.proofs.Joins.{nest, big_cong, big_swap, big_mul, nest_digits, total_kept_digits}
 use Rattle.cubes.proofs.Cells.{chunk_of_cell, local_of_cell}
 use Rattle.cubes.proofs.Summaries.{divided_at}
 

@@ -1,15 +1,13 @@
 -- What a chunk that was fetched brings to a summary cell.
-use Rattle.std.proofs.Common.{◌≡◌, ℕ, ◌<◌, ◌≤◌, Bool, true, false, cond, ◌&&◌, List, length, get_or, take, drop, Ok, Err, Result, sym, refl, ap, ◌∙◌, ap₂, ⊎_elim, arith}
-use Rattle.std.specs.List.{AllByRecursion as All}
-use Rattle.std.proofs.lemmas.List.{length-map, get_or-map, get_or_default, get_or_past, length-replicate, drop_at}
+use Rattle.std.proofs.Common.{◌≡◌, ℕ, ◌<◌, ◌≤◌, Bool, false, cond, ◌&&◌, List, length, get_or, take, drop, Ok, Err, Result, sym, refl, ap, ◌∙◌, ap₂, ⊎_elim, arith}
+use Rattle.std.proofs.lemmas.List.{length-map, get_or_default, get_or_past, length-replicate, drop_at}
 use Rattle.std.proofs.lemmas.Bool.{cases_lt}
-use Rattle.std.proofs.ByRecursion.{All-get_or}
 use Rattle.std.proofs.lemmas.Nat.{le-div}
 use Rattle.shapes.specs.declared.dims.Dim.{Dim}
 use Rattle.shapes.specs.declared.shape.Shape.{Shape}
 use Rattle.shapes.specs.Arrays.{Group, digits, edges, counts, chunks, volume, total_chunks, cell_at, agrees, none_dim, dim}
 use Rattle.shapes.specs.Views.{dims_of, six}
-use Rattle.shapes.proofs.Held.{dims_few, dims_long, dim_fits, count_at, edge_at}
+use Rattle.shapes.proofs.Held.{dims_long, dim_fits, count_at, edge_at}
 use Rattle.shapes.proofs.Numbering.{length_digits}
 use Rattle.shapes.proofs.Sixes.{six_at, length-six}
 use Rattle.measures.specs.Laws.{Lawful}

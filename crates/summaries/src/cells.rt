@@ -47,7 +47,7 @@ fn agrees_at(
 }
 
 fn joined_if<M: Measure>(so_far: M, agrees: bool, value: M) -> M
-    ensures { result ≡ op so_far (if agrees then value else empty) }
+    ensures { result ≡ M.op so_far (if agrees then value else M.empty) }
 {
     if agrees { so_far.join(value) } else { so_far }
 }
@@ -62,7 +62,7 @@ pub(crate) fn sum_where<M: Measure>(
     cells: &[M],
 ) -> M
     requires { (i : ℕ) → i < 6 → 1 ≤ slice_index edges i }
-    ensures { result ≡ big empty op (λ o. (if agrees group at (cell_at dims chunk (digits edges o)) then slice_index_or cells.now o empty else empty)) (length cells.now) }
+    ensures { result ≡ big M.empty M.op (λ o. (if agrees group at (cell_at dims chunk (digits edges o)) then slice_index_or cells.now o M.empty else M.empty)) (length cells.now) }
 {
     let mut sum = M::empty();
     for o in 0..cells.len() {

@@ -1,4 +1,6 @@
 // One summary cell, straight from its definition.
+#![tactic(auto)]
+
 mod cells;
 mod refusals;
 mod summary;

@@ -24,8 +24,8 @@ fn sum_of_chunk<M: Measure, S: Source<M>>(
     requires shaped { dims_of shape.now ≡ S.Shaped.told source.old }
     requires there { number < total_chunks (S.Shaped.told source.old) }
     requires room { volume (S.Shaped.told source.old) ≤ length cells.old }
-    ensures same { means S.Shaped.told contents source.new ≡ means S.Shaped.told contents source.old }
-    ensures sum { (g : Group) → length g ≡ length (S.Shaped.told source.old) → group ≡ six false g → result ≡ big empty op (brings empty (means S.Shaped.told contents source.old) g at number) (volume (S.Shaped.told source.old)) }
+    ensures same { means S.Shaped.told S.contents source.new ≡ means S.Shaped.told S.contents source.old }
+    ensures sum { (g : Group) → length g ≡ length (S.Shaped.told source.old) → group ≡ six false g → result ≡ big M.empty M.op (brings M.empty (means S.Shaped.told S.contents source.old) g at number) (volume (S.Shaped.told source.old)) }
     ensures rest { drop (volume (S.Shaped.told source.old)) cells.new ≡ drop (volume (S.Shaped.told source.old)) cells.old }
 {
     let v = shape.chunk_cells() as usize;
@@ -46,8 +46,8 @@ fn sum_of_chunks<M: Measure, S: Source<M>>(
 ) -> M
     requires shaped { dims_of shape.now ≡ S.Shaped.told source.old }
     requires room { volume (S.Shaped.told source.old) ≤ length cells.old }
-    ensures same { means S.Shaped.told contents source.new ≡ means S.Shaped.told contents source.old }
-    ensures sum { (g : Group) → length g ≡ length (S.Shaped.told source.old) → group ≡ six false g → result ≡ direct empty op (means S.Shaped.told contents source.old) g at }
+    ensures same { means S.Shaped.told S.contents source.new ≡ means S.Shaped.told S.contents source.old }
+    ensures sum { (g : Group) → length g ≡ length (S.Shaped.told source.old) → group ≡ six false g → result ≡ direct M.empty M.op (means S.Shaped.told S.contents source.old) g at }
     ensures rest { drop (volume (S.Shaped.told source.old)) cells.new ≡ drop (volume (S.Shaped.told source.old)) cells.old }
 {
     let mut sum = M::empty();
@@ -83,9 +83,9 @@ pub fn direct_summary<M: Measure, S: Source<M>>(
     at: [u32; 6],
     cells: &mut [M],
 ) -> Result<M, SummaryRefusal>
-    ensures same { means S.Shaped.told contents source.new ≡ means S.Shaped.told contents source.old }
-    ensures answers { result ≡ summary_answer empty op (means S.Shaped.told contents source.old) mask at (length cells.old) }
-    ensures leaves { cells.new ≡ cells_left empty op (means S.Shaped.told contents source.old) mask at cells.old }
+    ensures same { means S.Shaped.told S.contents source.new ≡ means S.Shaped.told S.contents source.old }
+    ensures answers { result ≡ summary_answer M.empty M.op (means S.Shaped.told S.contents source.old) mask at (length cells.old) }
+    ensures leaves { cells.new ≡ cells_left M.empty M.op (means S.Shaped.told S.contents source.old) mask at cells.old }
 {
     let shape = source.shape();
     let Some(group) = shape.group(mask) else {

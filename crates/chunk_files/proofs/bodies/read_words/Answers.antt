@@ -6,14 +6,14 @@ use Rattle.chunk_files.specs.Bodies.{fault_if, dense_cells, filled}
 use Rattle.chunk_files.proofs.Wordings.{word_bad, word_good, same_value, tallied, count_bad, count_good, words_all}
 use Rattle.chunk_files.proofs.bodies.read_words.Goals as goal
 
-pub returns-in-err-reading : goal.returns-in-err-reading
-returns-in-err-reading g c =
+pub returns-in_err-reading : goal.returns-in_err-reading
+returns-in_err-reading g c =
     let b = c.args.raw.now in
     let v = length c.args.cells.now in
     let k = c.loop-k.k in
     let e = c.loop-k.auto.cells in
-    let h = c.in-err-reading.ensures in
-    let p = err_from_is_err_and c.from-residual.result c.from-residual.ensures.1 in
+    let h = c.in_err-reading.ensures in
+    let p = err_from_is_err_and c.from_residual.result c.from_residual.ensures.1 in
     rw (p.1, p.2)
     (ap (λ o. or_else o (fault_if (not (eqb (filled (dense_cells v b)) c.args.count)) (3, v))) (sym c.loop-k.invariant.0 ∙ word_bad b v k (omega arith) h.0) ∙ ap Some (sym h.1))
 
@@ -24,13 +24,13 @@ loop-k-preserved g c =
     let v = length c.args.cells.now in
     let k = c.loop-k.k in
     let e = c.loop-k.auto.cells in
-    let h = c.in-ok-reading.ensures in
+    let h = c.in_ok-reading.ensures in
     let w = word b (4 * k) in
     let lt : k < length c.loop-k.cells = omega arith in
-    let t = tallied b v k (omega arith) c.loop-k.full c.tally-full.result c.in-ok-reading.reading c.loop-k.invariant.2 c.loop-k.invariant.3 c.tally-full.ensures h.1 in (
+    let t = tallied b v k (omega arith) c.loop-k.full c.tally-full.result c.in_ok-reading.reading c.loop-k.invariant.2 c.loop-k.invariant.3 c.tally-full.ensures h.1 in (
       word_good b v k (omega arith) h.0 ∙ c.loop-k.invariant.0,
       below_more _ _ (λ x l. let ne : x ≢ k = omega arith in rw get_or-set_other (c.loop-k.invariant.1 x l))
-          (rw get_or-set_same (c.cell_of.ensures ∙ same_value m.empty m.lifted c.in-ok-reading.reading w h.1)),
+          (rw get_or-set_same (c.cell_of.ensures ∙ same_value m.empty m.lifted c.in_ok-reading.reading w h.1)),
       t.0,
       t.1,
     )

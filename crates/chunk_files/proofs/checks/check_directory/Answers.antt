@@ -3,23 +3,23 @@ use Rattle.chunk_files.specs.Layouts.{entries_from, entries_fault, ending}
 use Rattle.chunk_files.proofs.Directories.{directory_wrong, turn_wrong, turn_right, turn_ending, body_small, ends_wrong, ends_right}
 use Rattle.chunk_files.proofs.checks.check_directory.Goals as goal
 
-pub returns-then-not-is-right : goal.returns-then-not-is-right
-returns-then-not-is-right c =
+pub returns-then-not-is_right : goal.returns-then-not-is_right
+returns-then-not-is_right c =
     let bs = c.args.bytes.now in let from = c.args.from in let v = c.args.cells in let t = c.args.chunks in
     directory_wrong bs from v t (omega arith) (9, c.loop-j.j ∷ [])
-    (sym c.loop-j.invariant.0 ∙ turn_wrong bs from v t c.loop-j.j c.loop-j.at c.loop-j-test.true c.read-entry-e.result c.read-entry-e.ensures (sym c.is_right.ensures ∙ c.if-not-is-right.true))
+    (sym c.loop-j.invariant.0 ∙ turn_wrong bs from v t c.loop-j.j c.loop-j.at c.loop-j-test.true c.read_entry-e.result c.read_entry-e.ensures (sym c.is_right.ensures ∙ c.if-not-is_right.true))
 
 pub loop-j-preserved : goal.loop-j-preserved
 loop-j-preserved c =
     let bs = c.args.bytes.now in let from = c.args.from in let v = c.args.cells in let t = c.args.chunks in
     let j = c.loop-j.j in let at = c.loop-j.at in
-    let r = sym c.is_right.ensures ∙ c.if-not-is-right.false in
-    let s = body_small v at c.read-entry-e.result c.requires.small r in
-    let e = c.body-length-at.ensures in (
+    let r = sym c.is_right.ensures ∙ c.if-not-is_right.false in
+    let s = body_small v at c.read_entry-e.result c.requires.small r in
+    let e = c.body_length-at.ensures in (
       ap (λ x. entries_fault v (j + 1) (at + x) (drop (j + 1) (entries_from bs from t))) e
-          ∙ (turn_right bs from v t j at c.loop-j-test.true c.read-entry-e.result c.read-entry-e.ensures r ∙ c.loop-j.invariant.0),
+          ∙ (turn_right bs from v t j at c.loop-j-test.true c.read_entry-e.result c.read_entry-e.ensures r ∙ c.loop-j.invariant.0),
       ap (λ x. ending v (at + x) (drop (j + 1) (entries_from bs from t))) e
-          ∙ (turn_ending bs from v t j at c.loop-j-test.true c.read-entry-e.result c.read-entry-e.ensures ∙ c.loop-j.invariant.1),
+          ∙ (turn_ending bs from v t j at c.loop-j-test.true c.read_entry-e.result c.read_entry-e.ensures ∙ c.loop-j.invariant.1),
       let b = c.loop-j.invariant.2 in omega arith,
     )
 

@@ -1,12 +1,8 @@
-use Rattle.std.proofs.Common.{◌≡◌, ℕ, [], ◌∷◌, ◌++◌, map, vec_items, sym, ap, ◌∙◌, arith}
+use Rattle.std.proofs.Common.{◌≡◌, [], ◌∷◌, ◌++◌, map, vec_items, sym, ◌∙◌, arith}
 use Rattle.std.specs.List.{range_with_len}
 use Rattle.std.proofs.lemmas.List.FromFn.{map-range_with_len_more}
-use Rattle.std.proofs.lemmas.List.{get_or_default}
-use Rattle.sources.specs.declared.rows.Row.{Row}
-use Rattle.shapes.specs.Arrays.{storage, offset}
 use Rattle.shapes.specs.Views.{dims_of}
-use Rattle.chunk_writers.specs.declared.keys.Key.{Key}
-use Rattle.chunk_writers.specs.Keys.{key_of, none_row}
+use Rattle.chunk_writers.specs.Keys.{key_of}
 use Rattle.chunk_writers.proofs.keys.keys_of.Goals as goal
 
 pub loop-i-preserved : goal.loop-i-preserved
@@ -16,5 +12,5 @@ loop-i-preserved c =
     let i = c.loop-i.i in
     let key : c.key_of.result ≡ key_of ds rows i = c.key_of.ensures in
     let grown : vec_items c.push.new.self ≡ map (key_of ds rows) (range_with_len 0 i) ++ key_of ds rows i ∷ [] =
-    c.in-ok-push.ensures.items ∙ (λ z. c.loop-i.invariant z ++ key z ∷ []) in
+    c.in_ok-push.ensures.items ∙ (λ z. c.loop-i.invariant z ++ key z ∷ []) in
     grown ∙ sym (map-range_with_len_more (key_of ds rows) 0 i i (omega arith))

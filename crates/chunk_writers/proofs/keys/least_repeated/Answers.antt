@@ -13,7 +13,7 @@ loop-i-preserved c =
     let i = c.loop-i.i in
     let here : i < length ks = omega arith in
     let before : i - 1 < length ks = omega arith in
-    repeated_more ks i c.loop-i.least c.least-second-least.result (get_or ks (i - 1) none_key) (get_or ks i none_key) (omega arith) here (λ d. get_or_default ks (i - 1) d none_key before) (λ d. get_or_default ks i d none_key here) c.loop-i.invariant c.least-second-least.ensures
+    repeated_more ks i c.loop-i.least c.least_second-least.result (get_or ks (i - 1) none_key) (get_or ks i none_key) (omega arith) here (λ d. get_or_default ks (i - 1) d none_key before) (λ d. get_or_default ks i d none_key here) c.loop-i.invariant c.least_second-least.ensures
 
 pub returns : goal.returns
 returns c = record { least = λ p d l t. c.loop-i.invariant.least p d (omega arith) t; found = c.loop-i.invariant.found }

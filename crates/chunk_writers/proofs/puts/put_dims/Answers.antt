@@ -1,9 +1,9 @@
-use Rattle.std.proofs.Common.{◌≡◌, ℕ, ◌+◌, ◌*◌, ◌<◌, ◌≤◌, List, ◌++◌, length, get_or, drop, sym, refl, ap, ◌∙◌, arith}
+use Rattle.std.proofs.Common.{◌≡◌, ◌+◌, ◌*◌, List, length, get_or, drop, sym, refl, ap, ◌∙◌, arith}
 use Rattle.std.specs.List.{flat_map}
 use Rattle.std.proofs.lemmas.List.{drop_more, drop_all, get_or_default}
 use Rattle.shapes.specs.declared.dims.Dim.{Dim}
 use Rattle.shapes.specs.Arrays.{none_dim}
-use Rattle.shapes.specs.Views.{dims_of, six}
+use Rattle.shapes.specs.Views.{dims_of}
 use Rattle.shapes.proofs.Held.{dims_few}
 use Rattle.shapes.proofs.Sixes.{six_at, length-six}
 use Rattle.chunk_files.specs.Layouts.{dim_bytes}

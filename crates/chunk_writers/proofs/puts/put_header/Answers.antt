@@ -1,7 +1,6 @@
-use Rattle.std.proofs.Common.{◌≡◌, ℕ, ◌≤◌, [], ◌∷◌, ◌++◌, length, sym, refl, ap, ◌∙◌, arith}
+use Rattle.std.proofs.Common.{[], ◌∷◌, length, ap, ◌∙◌, arith}
 use Rattle.std.specs.List.{flat_map}
 use Rattle.shapes.specs.Views.{dims_of}
-use Rattle.shapes.proofs.Held.{dims_few}
 use Rattle.chunk_files.specs.Layouts.{dim_bytes}
 use Rattle.chunk_writers.specs.Written.{put}
 use Rattle.chunk_writers.proofs.Putting.{put_then}

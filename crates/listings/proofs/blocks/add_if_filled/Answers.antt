@@ -5,11 +5,11 @@ use Rattle.listings.proofs.Writing.{told_as}
 use Rattle.listings.proofs.Filled.{tests_empty, empty_line, line_unless_empty}
 use Rattle.listings.proofs.blocks.add_if_filled.Goals as goal
 
-pub returns-then-is-empty : goal.returns-then-is-empty
-returns-then-is-empty g c =
+pub returns-then-is_empty : goal.returns-then-is_empty
+returns-then-is_empty g c =
     let a = c.args in
     let e = tests_empty g.M.Measure.empty g.M.Measure.columns c.requires a.value.now c.is_empty.result c.is_empty.ensures in
-    empty_line g.M.Measure.empty g.M.Measure.columns a.mask a.number a.offset a.value.now (string_bytes a.text.now) (sym e ∙ c.if-is-empty.true)
+    empty_line g.M.Measure.empty g.M.Measure.columns a.mask a.number a.offset a.value.now (string_bytes a.text.now) (sym e ∙ c.if-is_empty.true)
 
 pub returns : goal.returns
 returns g c =
@@ -18,4 +18,4 @@ returns g c =
     told_as c.add_cell_line.result c.add_cell_line.result (string_bytes a.text.now) (string_bytes c.add_cell_line.new.text)
     (cell_line a.mask a.number a.offset (g.M.Measure.columns a.value.now))
     (filled_line g.M.Measure.empty g.M.Measure.columns a.mask a.number a.offset a.value.now) refl
-    (line_unless_empty g.M.Measure.empty g.M.Measure.columns a.mask a.number a.offset a.value.now (sym e ∙ c.if-is-empty.false)) c.add_cell_line.ensures
+    (line_unless_empty g.M.Measure.empty g.M.Measure.columns a.mask a.number a.offset a.value.now (sym e ∙ c.if-is_empty.false)) c.add_cell_line.ensures

@@ -4,10 +4,10 @@ use Rattle.shapes.specs.Arrays.{total_chunks}
 use Rattle.sources.specs.Meanings.{Meaning, means, fetch_answer}
 use Rattle.listings.proofs.Counting.{counted_more, count_bound, unfetched_unreadable}
 use Rattle.listings.proofs.counts.count_unreadable.Goals as goal
-use Rattle.listings.proofs.counts.count_unreadable.Goals.{then-is-err, else-is-err}
+use Rattle.listings.proofs.counts.count_unreadable.Goals.{then-is_err, else-is_err}
 
-pub overflow-add-count : goal.overflow-add-count
-overflow-add-count g c =
+pub overflow_add-count : goal.overflow_add-count
+overflow_add-count g c =
     let σ = means g.S.Shaped.told g.S.Source.contents c.args.source.now in
     omega (arith, c.loop-number.invariant.1, count_bound (λ k. is_err (fetch_answer σ k (length c.args.buffer.now))) c.loop-number.number)
 
@@ -18,14 +18,14 @@ loop-number-preserved g c =
     let room = length c.args.buffer.now in
     let inv = c.loop-number.invariant in
     let test : ℕ → Bool = λ k. is_err (fetch_answer σ k room) in
-    let tested : test n ≡ c.is-err.result =
-    sym (c.is-err.ensures.value ∙ ap is_err (c.fetch.ensures.answers ∙ ap₂ (λ (τ : Meaning g.row.M.Denot) (r : ℕ). fetch_answer τ n r) inv.0 c.loop-number.auto.buffer)) in
-    let count : (t : Bool) → c.is-err.result ≡ t → c.if-is-err.count ≡ c.loop-number.count + cond t 1 0 → c.if-is-err.count ≡ count_by test (range_with_len 0 (n + 1)) =
-    λ t is then. counted_more test n c.loop-number.count c.if-is-err.count t inv.1 (tested ∙ is) then in (
+    let tested : test n ≡ c.is_err.result =
+    sym (c.is_err.ensures.value ∙ ap is_err (c.fetch.ensures.answers ∙ ap₂ (λ (τ : Meaning g.row.M.Denot) (r : ℕ). fetch_answer τ n r) inv.0 c.loop-number.auto.buffer)) in
+    let count : (t : Bool) → c.is_err.result ≡ t → c.if-is_err.count ≡ c.loop-number.count + cond t 1 0 → c.if-is_err.count ≡ count_by test (range_with_len 0 (n + 1)) =
+    λ t is then. counted_more test n c.loop-number.count c.if-is_err.count t inv.1 (tested ∙ is) then in (
       c.fetch.ensures.same ∙ inv.0,
-      elim c.if-is-err.branch [
-        | then-is-err w ↦ count true w.if-is-err.true w.count_is
-        | else-is-err w ↦ count false w.if-is-err.false (omega (arith, w.count_is))
+      elim c.if-is_err.branch [
+        | then-is_err w ↦ count true w.if-is_err.true w.count-is
+        | else-is_err w ↦ count false w.if-is_err.false (omega (arith, w.count-is))
       ],
     )
 
@@ -34,6 +34,6 @@ returns g c =
     let σ = means g.S.Shaped.told g.S.Source.contents c.args.source.now in
     let room = length c.args.buffer.now in
     let inv = c.loop-number.invariant in
-    let all : c.loop-number.number ≡ total_chunks σ.dims = omega (arith, c.total-chunks-number-end.ensures, ap total_chunks c.shape.ensures) in
+    let all : c.loop-number.number ≡ total_chunks σ.dims = omega (arith, c.total_chunks-number-end.ensures, ap total_chunks c.shape.ensures) in
     let counted = inv.1 ∙ ap (λ n. count_by (λ k. is_err (fetch_answer σ k room)) (range_with_len 0 n)) all in
     record { same = inv.0; fetched = counted; counted = λ fits. counted ∙ unfetched_unreadable g.M.Measure.empty σ room fits }

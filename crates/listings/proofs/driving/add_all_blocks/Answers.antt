@@ -1,7 +1,6 @@
 use Rattle.std.proofs.Common.{◌+◌, string_bytes, sym, refl, ap, ◌∙◌, subst, arith}
 use Rattle.shapes.specs.Arrays.{total_chunks, volume}
 use Rattle.sources.specs.Meanings.{Meaning, means}
-use Rattle.runs.specs.Answers.{passed}
 use Rattle.runs.specs.Holdings.{moment}
 use Rattle.listings.specs.Making.{Driven}
 use Rattle.listings.proofs.DrivenLines.{rests_first, rests_next}
@@ -15,17 +14,17 @@ loop-scan-init g c =
       rests_first g.M.Measure.empty g.M.Measure.columns g.M.Measure.op σ (string_bytes c.args.text.now) (moment c.args.run.now) c.requires.driven c.requires.fresh.0 c.requires.fresh.1,
     )
 
-pub pass-chunk-requires : goal.pass-chunk-requires
-pass-chunk-requires g c =
+pub pass_chunk-requires : goal.pass_chunk-requires
+pass_chunk-requires g c =
     let inv = c.loop-scan.invariant in
     record {
       driven = subst (λ (τ : Meaning g.row.M.Denot). Driven g.M.Measure.empty g.M.Measure.op τ (moment c.loop-scan.run)) (sym inv.0) inv.2.driven;
       idle = inv.2.idle;
-      more = omega (arith, inv.1, c.loop-scan-test.true, c.total-chunks-scan-end.ensures, ap total_chunks c.shape.ensures, ap (λ (τ : Meaning g.row.M.Denot). total_chunks τ.dims) inv.0);
+      more = omega (arith, inv.1, c.loop-scan-test.true, c.total_chunks-scan-end.ensures, ap total_chunks c.shape.ensures, ap (λ (τ : Meaning g.row.M.Denot). total_chunks τ.dims) inv.0);
     }
 
-pub add-waiting-blocks-requires : goal.add-waiting-blocks-requires
-add-waiting-blocks-requires g c =
+pub add_waiting_blocks-requires : goal.add_waiting_blocks-requires
+add_waiting_blocks-requires g c =
     let inv = c.loop-scan.invariant in
     record {
       tells = c.requires.tells;
@@ -39,7 +38,7 @@ loop-scan-preserved g c =
     let σ = means g.S.Shaped.told g.S.Source.contents c.args.source.now in
     let inv = c.loop-scan.invariant in
     let driven : Driven empty op σ (moment c.pass_chunk.new.run) = subst (λ (τ : Meaning g.row.M.Denot). Driven empty op τ (moment c.pass_chunk.new.run)) inv.0 c.pass_chunk.ensures.driven in
-    let handed = c.in-ok-add-waiting-blocks.ensures σ driven in (
+    let handed = c.in_ok-add_waiting_blocks.ensures σ driven in (
       c.pass_chunk.ensures.same ∙ inv.0,
       handed.1.passes_none ∙ (c.pass_chunk.ensures.passed ∙ ap (λ n. n + 1) inv.1),
       rests_next empty g.M.Measure.columns op σ (string_bytes c.args.text.now) (moment c.loop-scan.run) (moment c.pass_chunk.new.run) (moment c.add_waiting_blocks.new.run)
@@ -49,4 +48,4 @@ loop-scan-preserved g c =
 pub returns : goal.returns
 returns g c =
     let inv = c.loop-scan.invariant in
-    record { rests = inv.2; whole = omega (arith, inv.1, c.loop-scan-test.false, c.loop-scan.auto.-scan-end, c.total-chunks-scan-end.ensures, ap total_chunks c.shape.ensures) }
+    record { rests = inv.2; whole = omega (arith, inv.1, c.loop-scan-test.false, c.loop-scan.auto._scan-end, c.total_chunks-scan-end.ensures, ap total_chunks c.shape.ensures) }

@@ -20,7 +20,7 @@ loop-mask-preserved g c = (
       goes_on_more empty columns g.M.Measure.op σ (moment c.args.run.now) (string_bytes c.args.text.now) driven (moment c.loop-mask.run) (string_bytes c.loop-mask.text)
       (c.loop-mask.invariant.1 σ driven) c.loop-mask.buffer c.hand.result c.hand.new.buffer (moment c.hand.new.self) c.hand.ensures.hands room (c.in-Ok.mask, c.in-Ok.number, c.in-Ok.cells) c.in-Ok.is
       (string_bytes c.add_block_lines.new.text)
-      (c.in-ok-add-block-lines.ensures
+      (c.in_ok-add_block_lines.ensures
       ∙ ap (λ n. string_bytes c.loop-mask.text ++ cell_lines empty columns c.in-Ok.mask c.in-Ok.number 0 (take n c.hand.new.buffer)) (sub-zero c.in-Ok.cells)),
 )
 
@@ -33,4 +33,4 @@ pub returns : goal.returns
 returns g c = λ σ driven.
     let room : volume (dims_in (moment c.args.run.now)) ≤ length c.loop-mask.buffer = omega (arith, c.requires.room, c.loop-mask.invariant.0) in
     goes_on_idle g.M.Measure.empty g.M.Measure.columns g.M.Measure.op σ (moment c.args.run.now) (string_bytes c.args.text.now) driven (moment c.loop-mask.run) (string_bytes c.loop-mask.text)
-    (c.loop-mask.invariant.1 σ driven) c.loop-mask.buffer c.hand.result c.hand.new.buffer (moment c.hand.new.self) c.hand.ensures.hands room (ap is_ok c.in-default.is)
+    (c.loop-mask.invariant.1 σ driven) c.loop-mask.buffer c.hand.result c.hand.new.buffer (moment c.hand.new.self) c.hand.ensures.hands room (ap is_ok c.in_default.is)

@@ -9,10 +9,10 @@ pub returns : goal.returns
 returns g c =
     let σ = means g.S.Shaped.told g.S.Source.contents c.args.source.now in
     let text = string_bytes c.args.text.now in
-    let first : string_bytes c.add_shape_line.new.text ≡ text ++ dims_line σ.dims = c.in-ok-add-shape-line.ensures ∙ ap (λ ds. text ++ dims_line ds) c.shape.ensures in
+    let first : string_bytes c.add_shape_line.new.text ≡ text ++ dims_line σ.dims = c.in_ok-add_shape_line.ensures ∙ ap (λ ds. text ++ dims_line ds) c.shape.ensures in
     record {
-      same = c.count-unreadable-unreadable.ensures.same;
+      same = c.count_unreadable-unreadable.ensures.same;
       lines = behind c.add_cells_line.result text (string_bytes c.add_shape_line.new.text) (string_bytes c.add_cells_line.new.text) (dims_line σ.dims) (cells_line c.args.need (unreadable_chunks σ)) first
           (told_as c.add_cells_line.result c.add_cells_line.result (string_bytes c.add_shape_line.new.text) (string_bytes c.add_cells_line.new.text) _ (cells_line c.args.need (unreadable_chunks σ)) refl
-          (ap (cells_line c.args.need) (c.count-unreadable-unreadable.ensures.counted c.requires)) c.add_cells_line.ensures);
+          (ap (cells_line c.args.need) (c.count_unreadable-unreadable.ensures.counted c.requires)) c.add_cells_line.ensures);
     }

@@ -19,11 +19,11 @@ returns-in-Err g c =
     (λ s h. h ∙ (ap₂ refused_lines c.number.ensures c.place.ensures
     ∙ sym (refused_need g.M.Measure.empty g.M.Measure.op g.M.Measure.lifted g.M.Measure.columns bs (too_few c.in-Err.e) c.requires.opened fault))) c.refused_lines.ensures
 
-pub list-source-requires : goal.list-source-requires
-list-source-requires g c =
+pub list_source-requires : goal.list_source-requires
+list_source-requires g c =
     let bs = c.args.file.bytes.now in
     let needed : c.of-plan.result.need ≡ need_of (file_dims bs) = c.of-plan.ensures.planned.needing ∙ (ap plan_need c.shape.ensures ∙ need_planned (file_dims bs)) in
-    let enough : c.of-plan.result.need ≤ length c.args.cells.now = check_passed (length c.args.cells.now) c.of-plan.result.need c.in-default.ensures in
+    let enough : c.of-plan.result.need ≤ length c.args.cells.now = check_passed (length c.args.cells.now) c.of-plan.result.need c.in_default.ensures in
     record {
       tells = c.requires.tells;
       needs = c.need.ensures ∙ needed;
@@ -35,5 +35,5 @@ pub returns : goal.returns
 returns g c =
     let bs = c.args.file.bytes.now in
     let needed : c.of-plan.result.need ≡ need_of (file_dims bs) = c.of-plan.ensures.planned.needing ∙ (ap plan_need c.shape.ensures ∙ need_planned (file_dims bs)) in
-    let none : check_fault given_cells (need_of (file_dims bs)) ≡ None = ap₂ check_fault (sym c.requires.given) (sym needed) ∙ c.in-default.ensures in
+    let none : check_fault given_cells (need_of (file_dims bs)) ≡ None = ap₂ check_fault (sym c.requires.given) (sym needed) ∙ c.in_default.ensures in
     IfOk-weaker c.list_source.result _ _ (λ s h. h ∙ sym (not_refused g.M.Measure.empty g.M.Measure.op g.M.Measure.lifted g.M.Measure.columns bs c.requires.opened none)) c.list_source.ensures

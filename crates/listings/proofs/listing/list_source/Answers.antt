@@ -10,8 +10,8 @@ use Rattle.listings.proofs.DrivenEnds.{listed_whole}
 use Rattle.listings.proofs.DrivenSteps.{driven_first}
 use Rattle.listings.proofs.listing.list_source.Goals as goal
 
-pub add-all-blocks-listed-requires : goal.add-all-blocks-listed-requires
-add-all-blocks-listed-requires g c =
+pub add_all_blocks-listed-requires : goal.add_all_blocks-listed-requires
+add_all_blocks-listed-requires g c =
     let τ = means g.S.Shaped.told g.S.Source.contents c.add_first_lines.new.source in
     let same = ap (λ (ρ : Meaning g.row.M.Denot). ρ.dims) c.add_first_lines.ensures.same in
     let enough : need_of τ.dims ≤ length c.args.cells.now = omega (arith, ap need_of same, c.requires.enough) in
@@ -23,8 +23,8 @@ returns g c =
     let σ = means g.S.Shaped.told g.S.Source.contents c.args.source.now in
     let τ = means g.S.Shaped.told g.S.Source.contents c.add_first_lines.new.source in
     let head : string_bytes c.add_first_lines.new.text ≡ dims_line σ.dims ++ cells_line (need_of σ.dims) (unreadable_chunks σ) =
-    c.in-ok-add-first-lines.ensures.lines
+    c.in_ok-add_first_lines.ensures.lines
     ∙ ap₂ (λ ts (n : ℕ). ts ++ (dims_line σ.dims ++ cells_line n (unreadable_chunks σ))) c.new-text.ensures.bytes c.requires.needs in
-    listed_whole g.M.Measure.empty g.M.Measure.columns g.M.Measure.op σ τ (moment c.add-all-blocks-listed.new.run) (string_bytes c.add_first_lines.new.text)
-    (string_bytes c.add-all-blocks-listed.new.text) (string_bytes c.add_end_line.new.text) c.close-closed.result c.add_first_lines.ensures.same c.in-ok-listed.ensures
-    c.close-closed.ensures.closed head c.in-ok-add-end-line.ensures
+    listed_whole g.M.Measure.empty g.M.Measure.columns g.M.Measure.op σ τ (moment c.add_all_blocks-listed.new.run) (string_bytes c.add_first_lines.new.text)
+    (string_bytes c.add_all_blocks-listed.new.text) (string_bytes c.add_end_line.new.text) c.close-closed.result c.add_first_lines.ensures.same c.in_ok-listed.ensures
+    c.close-closed.ensures.closed head c.in_ok-add_end_line.ensures

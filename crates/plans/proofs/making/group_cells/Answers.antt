@@ -8,19 +8,19 @@ use Rattle.plans.proofs.LeastNeed.{cells_front}
 use Rattle.plans.proofs.Cells.{cells_none, cells_more, cells_all}
 use Rattle.plans.proofs.making.group_cells.Goals as goal
 
-more : (c : goal.After-share-of-product) → c.loop-i.product * c.share-of-product.result ≡ times (share c.args.dims.now (place_in c.args.places.now) (group (length c.args.dims.now) c.args.bits) c.args.e) (range_with_len 0 (c.loop-i.i + 1))
+more : (c : goal.After-share_of-product) → c.loop-i.product * c.share_of-product.result ≡ times (share c.args.dims.now (place_in c.args.places.now) (group (length c.args.dims.now) c.args.bits) c.args.e) (range_with_len 0 (c.loop-i.i + 1))
 more c =
     let ds = c.args.dims.now in
-    cells_more ds c.args.places.now (group (length ds) c.args.bits) c.args.e c.loop-i.i c.loop-i.product c.share-of-product.result c.kept.result
-    c.loop-i-test.true (c.kept.ensures (length ds) c.loop-i-test.true) c.share-of-product.ensures c.loop-i.invariant
+    cells_more ds c.args.places.now (group (length ds) c.args.bits) c.args.e c.loop-i.i c.loop-i.product c.share_of-product.result c.kept.result
+    c.loop-i-test.true (c.kept.ensures (length ds) c.loop-i-test.true) c.share_of-product.ensures c.loop-i.invariant
 
 pub loop-i-init : goal.loop-i-init
 loop-i-init c =
     let ds = c.args.dims.now in
     cells_none ds c.args.places.now (group (length ds) c.args.bits) c.args.e
 
-pub overflow-mul-product : goal.overflow-mul-product
-overflow-mul-product c =
+pub overflow_mul-product : goal.overflow_mul-product
+overflow_mul-product c =
     let ds = c.args.dims.now in
     let small = cells_front ds c.requires.edged (place_in c.args.places.now) (group (length ds) c.args.bits) c.args.e (c.loop-i.i + 1) (omega arith) in
     omega (arith, more c, small, c.requires.small)

@@ -11,7 +11,7 @@ loop-bits-init c =
 pub loop-bits-preserved : goal.loop-bits-preserved
 loop-bits-preserved c =
     let ds = c.args.dims.now in
-    let more = need_more ds c.requires.edged c.args.places.now c.args.adds.now c.loop-bits.bits c.group-cells-total.result (omega arith) c.group-cells-total.ensures.answer in
+    let more = need_more ds c.requires.edged c.args.places.now c.args.adds.now c.loop-bits.bits c.group_cells-total.result (omega arith) c.group_cells-total.ensures.answer in
     (omega arith, omega arith)
 
 pub returns : goal.returns

@@ -2,7 +2,7 @@ use Rattle.std.proofs.Common.{◌≡◌, ℕ, cond, length, ap, ◌∙◌, arith
 use Rattle.plans.proofs.Places.{placed_none, placed_more, placed_all}
 use Rattle.plans.proofs.Dims.{edged_at, slack_at}
 use Rattle.plans.proofs.making.place_of.Goals as goal
-use Rattle.plans.proofs.making.place_of.Goals.{then-comes-before, else-comes-before}
+use Rattle.plans.proofs.making.place_of.Goals.{then-comes_before, else-comes_before}
 
 pub slack-own-requires : goal.slack-own-requires
 slack-own-requires c = edged_at c.args.dims.now c.args.i c.requires.inside c.requires.edged
@@ -20,13 +20,13 @@ loop-j-preserved c =
     let j = c.loop-j.j in
     let more = placed_more ds i j c.slack.result c.slack-own.result c.comes_before.result
     (c.slack.ensures ∙ slack_at ds j c.loop-j-test.true) (c.slack-own.ensures ∙ slack_at ds i c.requires.inside) c.comes_before.ensures in
-    elim c.if-comes-before.branch [
-      | then-comes-before w ↦
-          let one : ◌≡◌ {A = ℕ} (cond c.comes_before.result 1 0) 1 = ap (λ t. cond t 1 0) w.if-comes-before.true in
-          (omega (arith, w.place_is), omega (arith, w.place_is))
-      | else-comes-before w ↦
-          let none : ◌≡◌ {A = ℕ} (cond c.comes_before.result 1 0) 0 = ap (λ t. cond t 1 0) w.if-comes-before.false in
-          (omega (arith, w.place_is), omega (arith, w.place_is))
+    elim c.if-comes_before.branch [
+      | then-comes_before w ↦
+          let one : ◌≡◌ {A = ℕ} (cond c.comes_before.result 1 0) 1 = ap (λ t. cond t 1 0) w.if-comes_before.true in
+          (omega (arith, w.place-is), omega (arith, w.place-is))
+      | else-comes_before w ↦
+          let none : ◌≡◌ {A = ℕ} (cond c.comes_before.result 1 0) 0 = ap (λ t. cond t 1 0) w.if-comes_before.false in
+          (omega (arith, w.place-is), omega (arith, w.place-is))
     ]
 
 pub returns : goal.returns

@@ -1,15 +1,14 @@
-use Rattle.std.proofs.Common.{◌≡◌, ◌^◌, ◌≤◌, ◌++◌, sym, ap, ◌∙◌, subst, ap₂, arith}
+use Rattle.std.proofs.Common.{◌≡◌, ◌++◌, sym, ap, ◌∙◌, ap₂, arith}
 use Rattle.std.proofs.lemmas.Result.{IfOk-weaker}
 use Rattle.shapes.specs.Views.{dims_of}
-use Rattle.shapes.specs.Refusals.{shape_refusal}
 use Rattle.shapes.proofs.Held.{limits}
 use Rattle.plans.specs.Plans.{plan_need}
 use Rattle.quotes.specs.Texts.{dims_text, cells_text, refused_text, checked_text}
 use Rattle.quotes.proofs.Bounding.{need_fits}
 use Rattle.quotes.proofs.answers.shape_answer.Goals as goal
 
-pub shape-lines-requires : goal.shape-lines-requires
-shape-lines-requires c = omega (arith, c.need.ensures, c.of.ensures.planned.needing, need_fits (dims_of c.in-Ok.shape) (limits c.in-Ok.shape) c.of.ensures.bounded)
+pub shape_lines-requires : goal.shape_lines-requires
+shape_lines-requires c = omega (arith, c.need.ensures, c.of.ensures.planned.needing, need_fits (dims_of c.in-Ok.shape) (limits c.in-Ok.shape) c.of.ensures.bounded)
 
 pub returns-in-Ok : goal.returns-in-Ok
 returns-in-Ok c =

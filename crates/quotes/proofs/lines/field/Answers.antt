@@ -1,4 +1,4 @@
-use Rattle.std.proofs.Common.{◌≡◌, sym, ap, ◌∙◌, ap₂}
+use Rattle.std.proofs.Common.{sym, ◌∙◌, ap₂}
 use Rattle.quotes.specs.Lines.{dim_from}
 use Rattle.quotes.proofs.Parting.{field_two, field_more}
 use Rattle.quotes.proofs.lines.field.Goals as goal
@@ -8,5 +8,5 @@ returns-in-Some-cut c = sym (field_more c.args.text.now c.in-Some.before.now c.i
 
 pub returns : goal.returns
 returns c =
-    sym (field_two c.args.text.now c.in-Some.before.now c.in-Some.behind.now c.in-Some.ensures.0 c.in-default-cut.ensures
+    sym (field_two c.args.text.now c.in-Some.before.now c.in-Some.behind.now c.in-Some.ensures.0 c.in_default-cut.ensures
     ∙ ap₂ dim_from (sym c.in-Some-number.ensures) (sym c.in-Some-number-2.ensures))

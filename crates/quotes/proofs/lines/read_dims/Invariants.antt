@@ -1,6 +1,6 @@
-use Rattle.std.proofs.Common.{◌≡◌, ◌++◌, map, length, vec_items}
+use Rattle.std.proofs.Common.{◌≡◌, ◌++◌, length, vec_items}
 use Rattle.std.specs.Option.{option_map}
-use Rattle.quotes.specs.Lines.{parts, field_of, all_of, line_dims}
+use Rattle.quotes.specs.Lines.{line_dims}
 use Rattle.quotes.proofs.lines.read_dims.Given as goal
 
 abbrev pub invariant-loop-first : goal.invariant-loop-first

@@ -10,7 +10,10 @@ grid-from-requires g c =
     let y = c.args.layout in
     let r = c.args.parent in
     let b = c.args.block in
-    (c.requires.2.0, omega (arith, within_start (block_edges y r) (start_of y r b) (strides_in y r) (length c.args.cells.now) c.requires.0 c.requires.2.1))
+    record {
+      narrow = c.requires.from_inside.0;
+      small = omega (arith, within_start (block_edges y r) (start_of y r b) (strides_in y r) (length c.args.cells.now) c.requires.positive c.requires.from_inside.1);
+    }
 
 pub grid-to-requires : goal.grid-to-requires
 grid-to-requires g c =
@@ -18,25 +21,33 @@ grid-to-requires g c =
     let r = c.args.parent in
     let u = c.args.child in
     let b = c.args.block in
-    (c.requires.3.0, omega (arith, within_start (block_edges y r) (start_of y u b) (strides_in y u) (length c.args.cells.now) c.requires.0 c.requires.3.1))
+    record {
+      narrow = c.requires.to_inside.0;
+      small = omega (arith, within_start (block_edges y r) (start_of y u b) (strides_in y u) (length c.args.cells.now) c.requires.positive c.requires.to_inside.1);
+    }
 
-pub box-len-requires : goal.box-len-requires
-box-len-requires g c = (subst Positive (sym c.radices-edges.ensures) c.requires.0, omega (arith, c.requires.1, ap product c.radices-edges.ensures))
+pub box_len-requires : goal.box_len-requires
+box_len-requires g c =
+    record {
+      positive = subst Positive (sym c.radices-edges.ensures) c.requires.positive;
+      small = omega (arith, c.requires.small, ap product c.radices-edges.ensures);
+    }
 
-pub join-box-requires : goal.join-box-requires
-join-box-requires g c =
+pub join_box-requires : goal.join_box-requires
+join_box-requires g c =
     let y = c.args.layout in
     let r = c.args.parent in
     let u = c.args.child in
     let b = c.args.block in
     let n = length c.args.cells.now in
-    let e = c.radices-edges.ensures in (
-      subst Positive (sym e) c.requires.0,
-      c.box_len.ensures,
-      within_same c.radices-edges.result (block_edges y r) c.grid-from.result.start (start_of y r b) c.grid-from.result.strides (strides_in y r) n e c.grid-from.ensures.start c.grid-from.ensures.strides c.requires.2.1,
-      within_same c.radices-edges.result (block_edges y r) c.grid-to.result.start (start_of y u b) c.grid-to.result.strides (strides_in y u) n e c.grid-to.ensures.start c.grid-to.ensures.strides c.requires.3.1,
-      disjoint_same c.radices-edges.result (block_edges y r) c.grid-from.result.start (start_of y r b) c.grid-from.result.strides (strides_in y r) c.grid-to.result.start (start_of y u b) c.grid-to.result.strides (strides_in y u) e c.grid-from.ensures.start c.grid-from.ensures.strides c.grid-to.ensures.start c.grid-to.ensures.strides c.requires.4,
-    )
+    let e = c.radices-edges.ensures in
+    record {
+      positive = subst Positive (sym e) c.requires.positive;
+      counted = c.box_len.ensures;
+      from_within = within_same c.radices-edges.result (block_edges y r) c.grid-from.result.start (start_of y r b) c.grid-from.result.strides (strides_in y r) n e c.grid-from.ensures.start c.grid-from.ensures.strides c.requires.from_inside.1;
+      to_within = within_same c.radices-edges.result (block_edges y r) c.grid-to.result.start (start_of y u b) c.grid-to.result.strides (strides_in y u) n e c.grid-to.ensures.start c.grid-to.ensures.strides c.requires.to_inside.1;
+      apart = disjoint_same c.radices-edges.result (block_edges y r) c.grid-from.result.start (start_of y r b) c.grid-from.result.strides (strides_in y r) c.grid-to.result.start (start_of y u b) c.grid-to.result.strides (strides_in y u) e c.grid-from.ensures.start c.grid-from.ensures.strides c.grid-to.ensures.start c.grid-to.ensures.strides c.requires.apart;
+    }
 
 pub returns : goal.returns
 returns g c =

@@ -5,33 +5,41 @@ use Rattle.runs.specs.Grids.{block_edges, start_of, strides_in}
 use Rattle.runs.proofs.Strides.{within_start, within_same, box_cells_same}
 use Rattle.runs.proofs.blocks.write_block.Goals as goal
 
-pub box-len-count-requires : goal.box-len-count-requires
-box-len-count-requires g c = (subst Positive (sym c.radices-edges.ensures) c.requires.0, omega (arith, c.requires.1, ap product c.radices-edges.ensures))
+pub box_len-count-requires : goal.box_len-count-requires
+box_len-count-requires g c =
+    record {
+      positive = subst Positive (sym c.radices-edges.ensures) c.requires.positive;
+      small = omega (arith, c.requires.room, ap product c.radices-edges.ensures);
+    }
 
 pub grid-requires : goal.grid-requires
 grid-requires g c =
     let y = c.args.layout in
     let r = c.args.region in
     let b = c.args.block in
-    (c.requires.2.0, omega (arith, within_start (block_edges y r) (start_of y r b) (strides_in y r) (length c.args.cells.now) c.requires.0 c.requires.2.1))
+    record {
+      narrow = c.requires.inside.0;
+      small = omega (arith, within_start (block_edges y r) (start_of y r b) (strides_in y r) (length c.args.cells.now) c.requires.positive c.requires.inside.1);
+    }
 
-pub write-box-requires : goal.write-box-requires
-write-box-requires g c =
+pub write_box-requires : goal.write_box-requires
+write_box-requires g c =
     let y = c.args.layout in
     let r = c.args.region in
-    let b = c.args.block in (
-      subst Positive (sym c.radices-edges.ensures) c.requires.0,
-      c.box-len-count.ensures,
-      omega (arith, c.requires.1, c.box-len-count.ensures, ap product c.radices-edges.ensures),
-      within_same c.radices-edges.result (block_edges y r) c.grid.result.start (start_of y r b) c.grid.result.strides (strides_in y r) (length c.args.cells.now) c.radices-edges.ensures c.grid.ensures.start c.grid.ensures.strides c.requires.2.1,
-    )
+    let b = c.args.block in
+    record {
+      positive = subst Positive (sym c.radices-edges.ensures) c.requires.positive;
+      counted = c.box_len-count.ensures;
+      room = omega (arith, c.requires.room, c.box_len-count.ensures, ap product c.radices-edges.ensures);
+      within = within_same c.radices-edges.result (block_edges y r) c.grid.result.start (start_of y r b) c.grid.result.strides (strides_in y r) (length c.args.cells.now) c.radices-edges.ensures c.grid.ensures.start c.grid.ensures.strides c.requires.inside.1;
+    }
 
 pub returns : goal.returns
 returns g c =
     let y = c.args.layout in
     let r = c.args.region in
     let b = c.args.block in
-    let n : c.box-len-count.result ≡ product (block_edges y r) = c.box-len-count.ensures ∙ ap product c.radices-edges.ensures in
+    let n : c.box_len-count.result ≡ product (block_edges y r) = c.box_len-count.ensures ∙ ap product c.radices-edges.ensures in
     record {
       count = n;
       out = c.write_box.ensures

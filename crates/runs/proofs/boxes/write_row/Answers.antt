@@ -16,7 +16,7 @@ loop-l-preserved g c =
     let row = row_cells e c.args.cells.now c.args.count c.args.from c.args.stride in
     let v = c.cell_at.result in
     let i = c.loop-l.l in
-    let is : v ≡ get_or row i e = get_or_read c.args.cells.now (c.args.from + i * c.args.stride) v (c.requires.0 i (omega arith)) c.cell_at.ensures e
+    let is : v ≡ get_or row i e = get_or_read c.args.cells.now (c.args.from + i * c.args.stride) v (c.requires.within i (omega arith)) c.cell_at.ensures e
     ∙ sym (get_or-map-range_with_len f 0 c.args.count i i e (omega arith) (zero-add i)) in
     ap₂ (λ ys w. set ys (c.args.at + i) w) c.loop-l.invariant is
     ∙ paste_more c.args.out.now c.args.at row i e (omega arith) (omega (arith, length-map-range_with_len f 0 c.args.count))

@@ -15,13 +15,13 @@ handed-requires-2 c =
     let g = c.requires.0 in
     omega (arith, few_groups g.dims g.place g.adds c.args.tree.now g.grown, up_below g.dims g.place g.adds c.args.tree.now g.grown c.args.mask c.requires.1)
 
-pub nonzero-div-result : goal.nonzero-div-result
-nonzero-div-result c = let g = c.requires.0 in period_some g.dims g.place g.adds c.args.tree.now g.grown c.args.mask c.requires.1
+pub nonzero_div-result : goal.nonzero_div-result
+nonzero_div-result c = let g = c.requires.0 in period_some g.dims g.place g.adds c.args.tree.now g.grown c.args.mask c.requires.1
 
-pub overflow-mul-result : goal.overflow-mul-result
-overflow-mul-result c =
+pub overflow_mul-result : goal.overflow_mul-result
+overflow_mul-result c =
     let g = c.requires.0 in
     let x = node c.args.tree.now c.args.mask in
     let h = c.handed-2.result in
     let most = mul-le (h / x.period) x.share (h / x.period) x.period (omega arith) (share_most g.dims g.place g.adds c.args.tree.now g.grown c.args.mask c.requires.1) in
-    omega (arith, most, div-add-mod' h x.period, c.handed-2.type-inv)
+    omega (arith, most, div-add-mod' h x.period, c.handed-2.type_inv)

@@ -12,7 +12,7 @@ returns-in-Some c = (
 pub returns-then-mask-root : goal.returns-then-mask-root
 returns-then-mask-root c = (
   tt,
-  λ ds place adds g. none_at_root ds place adds c.args.tree.now g c.args.passed c.loop-found.mask c.args.table.now (omega arith) c.in-default.ensures
+  λ ds place adds g. none_at_root ds place adds c.args.tree.now g c.args.passed c.loop-found.mask c.args.table.now (omega arith) c.in_default.ensures
       ∙ c.loop-found.invariant.1 ds place adds g,
 )
 
@@ -21,7 +21,7 @@ loop-found-preserved c =
     let tr = c.args.tree.now in
     let low : c.loop-found.mask + 1 < 2 ^ tr.n = omega arith in (
       up_below c.requires.0.dims c.requires.0.place c.requires.0.adds tr c.requires.0.grown c.loop-found.mask low,
-      λ ds place adds g. none_here ds place adds tr g c.args.passed c.loop-found.mask c.args.table.now low c.in-default.ensures ∙ c.loop-found.invariant.1 ds place adds g,
+      λ ds place adds g. none_here ds place adds tr g c.args.passed c.loop-found.mask c.args.table.now low c.in_default.ensures ∙ c.loop-found.invariant.1 ds place adds g,
     )
 
 pub loop-found-smaller : goal.loop-found-smaller

@@ -1,13 +1,12 @@
-use Rattle.std.proofs.Common.{◌≡◌, ◌+◌, ◌^◌, ◌<◌, ◌≤◌, length, sym, ap, ◌∙◌, subst, arith}
-use Rattle.shapes.specs.Views.{dims_of}
+use Rattle.std.proofs.Common.{◌+◌, ◌^◌, ◌<◌, length, sym, ◌∙◌, arith}
 use Rattle.shapes.proofs.Held.{limits}
 use Rattle.runs.specs.Planned.{places_of, adds_of}
 use Rattle.runs.specs.Trees.{node}
 use Rattle.runs.proofs.PlannedScans.{planned_scan}
 use Rattle.runs.proofs.FromState.{ds, grown_in, top_is}
 use Rattle.runs.proofs.Steering.{same_groups, up_below, up_above}
-use Rattle.runs.proofs.ReleaseMasks.{release_below, climb-step}
-use Rattle.runs.proofs.ReleasesOver.{EmptiedBelow, begins_at, climbs, ends_within, ends_past}
+use Rattle.runs.proofs.ReleaseMasks.{release_below, climb_step}
+use Rattle.runs.proofs.ReleasesOver.{begins_at, climbs, ends_within, ends_past}
 use Rattle.runs.proofs.emptying.empty_over.Goals as goal
 
 pub climb-init : goal.climb-init
@@ -38,9 +37,9 @@ climb-preserved g c =
       omega arith,
       climbs g.M.Measure.empty (ds s) S c.args.from c.requires.below s.control.next c.args.cells.now m more c.climb.invariant.0
           c.climb.cells c.empty_mask.new.cells high
-          (λ k l a b. sym (climb-step (ds s) (places_of (ds s)) (adds_of (ds s)) s.control.tree (grown_in s) k m a (omega arith))
+          (λ k l a b. sym (climb_step (ds s) (places_of (ds s)) (adds_of (ds s)) s.control.tree (grown_in s) k m a (omega arith))
           ∙ release_below (ds s) (places_of (ds s)) (adds_of (ds s)) S k more b (omega arith))
-          (λ k l b. climb-step (ds s) (places_of (ds s)) (adds_of (ds s)) s.control.tree (grown_in s) k m (omega arith) (omega arith))
+          (λ k l b. climb_step (ds s) (places_of (ds s)) (adds_of (ds s)) s.control.tree (grown_in s) k m (omega arith) (omega arith))
           c.climb.invariant.1 (sym c.climb-test.ensures) c.empty_mask.ensures,
     )
 

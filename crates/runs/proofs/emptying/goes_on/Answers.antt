@@ -1,5 +1,4 @@
-use Rattle.std.proofs.Common.{◌≡◌, ◌^◌, ◌<◌, length, sym, ap, ◌∙◌, arith}
-use Rattle.shapes.specs.Views.{dims_of}
+use Rattle.std.proofs.Common.{sym, ap, ◌∙◌, arith}
 use Rattle.runs.specs.Planned.{places_of, adds_of}
 use Rattle.runs.specs.Emptying.{next_of_release}
 use Rattle.runs.proofs.FromState.{ds, is_grown, grown_in, controls_in}
@@ -7,8 +6,8 @@ use Rattle.runs.proofs.Stepping.{next_below}
 use Rattle.runs.proofs.Steering.{same_groups}
 use Rattle.runs.proofs.emptying.goes_on.Goals as goal
 
-pub is-under-requires : goal.is-under-requires
-is-under-requires c =
+pub is_under-requires : goal.is_under-requires
+is_under-requires c =
     let s = c.args.state.now in
     let same = same_groups (ds s) (places_of (ds s)) (adds_of (ds s)) s.control.tree (grown_in s) in
     record {

@@ -10,13 +10,13 @@ use Rattle.runs.proofs.HandedOn.{mask_within}
 use Rattle.runs.proofs.HandReady.{mask_few, block_positive, block_small, block_within, children_joinable}
 use Rattle.runs.proofs.handing.pass_block.Goals as goal
 
-pub overflow-cast-block : goal.overflow-cast-block
-overflow-cast-block g c =
+pub overflow_cast-block : goal.overflow_cast-block
+overflow_cast-block g c =
     let m = g.M.Measure in
     omega (arith, (mask_few m.empty m.op m.lawful (moment_of c.args.state.now c.args.cells.now) c.args.block c.requires.next c.root-root.result c.root-root.ensures.mask).0)
 
-pub join-children-requires : goal.join-children-requires
-join-children-requires g c =
+pub join_children-requires : goal.join_children-requires
+join_children-requires g c =
     let m = g.M.Measure in
     let b : Moment g.row.M.Denot = moment_of c.args.state.now c.args.cells.now in
     let r = c.root-root.result in
@@ -28,8 +28,8 @@ join-children-requires g c =
       joinable = children_joinable m.empty m.op m.lawful b c.args.block c.requires.next r c.root-root.ensures.mask (length c.args.cells.now) c.requires.enough;
     }
 
-pub empty-over-requires : goal.empty-over-requires
-empty-over-requires g c =
+pub empty_over-requires : goal.empty_over-requires
+empty_over-requires g c =
     let m = g.M.Measure in
     let b : Moment g.row.M.Denot = moment_of c.args.state.now c.args.cells.now in
     let same : dims_of c.count_handed.new.self.shape ≡ dims_of c.args.state.now.shape = ap dims_of c.count_handed.ensures.plan.shape in

@@ -16,18 +16,19 @@ region-requires g c =
     let m = g.M.Measure in
     omega (arith, top_is c.args.state.now, mask_within m.empty m.op m.lawful (moment_of c.args.state.now c.args.cells.now) c.args.block c.requires.next)
 
-pub write-block-requires : goal.write-block-requires
-write-block-requires g c =
+pub write_block-requires : goal.write_block-requires
+write_block-requires g c =
     let m = g.M.Measure in
     let y = c.args.state.now.layout in
     let b : Moment g.row.M.Denot = moment_of c.args.state.now c.args.cells.now in
     let top : ℕ = root_mask (dims_of c.args.state.now.shape) in
     let P : Region → Type 0 = λ u. Positive (block_edges y u) × (product (block_edges y u) ≤ length c.args.out.now) × Inside y u (block_edges y u) c.args.block.at (length c.args.cells.now) in
-    subst P (sym c.region.ensures) (
+    let ready = subst P (sym c.region.ensures) (
       block_positive m.empty m.op m.lawful b c.args.block c.requires.next top refl,
       omega (arith, block_cells_are m.empty m.op m.lawful b c.args.block c.requires.next top refl, c.requires.room),
       block_within m.empty m.op m.lawful b c.args.block c.requires.next top refl (length c.args.cells.now) c.requires.enough,
-    )
+    ) in
+    record { positive = ready.0; room = ready.1; inside = ready.2 }
 
 pub returns : goal.returns
 returns g c =

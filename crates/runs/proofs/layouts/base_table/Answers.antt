@@ -17,14 +17,14 @@ zeros n k = by (cases_lt k n)
 pub loop-m-init : goal.loop-m-init
 loop-m-init c = (refl, λ k l. absurd (omega arith), λ k l. zeros 64 k, omega arith)
 
-pub region-len-next-requires : goal.region-len-next-requires
-region-len-next-requires c = subst (Narrow c.args.layout) (sym c.region_of.ensures) (c.requires.narrow c.loop-m.m c.loop-m-test.true)
+pub region_len-next-requires : goal.region_len-next-requires
+region_len-next-requires c = subst (Narrow c.args.layout) (sym c.region_of.ensures) (c.requires.narrow c.loop-m.m c.loop-m-test.true)
 
-pub overflow-add-next : goal.overflow-add-next
-overflow-add-next c =
+pub overflow_add-next : goal.overflow_add-next
+overflow_add-next c =
     let y = c.args.layout in
     let f : ℕ → ℕ = λ k. cells_in y (region_at y c.args.adds c.args.root k 0) in
-    omega (arith, c.requires.small, c.loop-m.invariant.3, c.region-len-next.ensures, ap (cells_in y) c.region_of.ensures, sum_part f c.loop-m.m c.args.root c.loop-m-test.true)
+    omega (arith, c.requires.small, c.loop-m.invariant.3, c.region_len-next.ensures, ap (cells_in y) c.region_of.ensures, sum_part f c.loop-m.m c.args.root c.loop-m-test.true)
 
 pub loop-m-preserved : goal.loop-m-preserved
 loop-m-preserved c =
@@ -39,7 +39,7 @@ loop-m-preserved c =
           (λ k l. get_or-set_other xs m k v 0 (λ q. omega arith) ∙ inv.1 k l)
           (get_or-set_same xs m v 0 (omega (arith, inv.0, c.requires.few)) ∙ inv.3),
       λ k l. get_or-set_other xs m k v 0 (λ q. omega arith) ∙ inv.2 k (omega arith),
-      omega (arith, inv.3, c.region-len-next.ensures, ap (cells_in y) c.region_of.ensures, big_last 0 ◌+◌ sums f m),
+      omega (arith, inv.3, c.region_len-next.ensures, ap (cells_in y) c.region_of.ensures, big_last 0 ◌+◌ sums f m),
     )
 
 pub returns : goal.returns

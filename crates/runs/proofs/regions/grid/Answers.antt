@@ -8,31 +8,31 @@ use Rattle.cubes.proofs.ScanNumbers.{sums}
 use Rattle.runs.proofs.Strides.{sum_part, width_more}
 use Rattle.runs.proofs.regions.grid.Goals as goal
 
-pub overflow-mul-first : goal.overflow-mul-first
-overflow-mul-first c =
+pub overflow_mul-first : goal.overflow_mul-first
+overflow_mul-first c =
     let y = c.args.layout in
     let r = c.args.region in
     let i = c.loop-i.i in
     let f : ℕ → ℕ = λ i. first_at y r c.args.block i * stride_at y r i in
-    let e : c.first_of.result * c.stride-of-stride.result ≡ f i = ap₂ ◌*◌ c.first_of.ensures (c.stride-of-stride.ensures ∙ ap (λ z. cond (get_or r.kept i false) z 0) c.loop-i.invariant.3) in
-    omega (arith, c.requires.1, sum_part f i 6 (omega arith))
+    let e : c.first_of.result * c.stride_of-stride.result ≡ f i = ap₂ ◌*◌ c.first_of.ensures (c.stride_of-stride.ensures ∙ ap (λ z. cond (get_or r.kept i false) z 0) c.loop-i.invariant.3) in
+    omega (arith, c.requires.small, sum_part f i 6 (omega arith))
 
-pub overflow-add-first : goal.overflow-add-first
-overflow-add-first c =
+pub overflow_add-first : goal.overflow_add-first
+overflow_add-first c =
     let y = c.args.layout in
     let r = c.args.region in
     let i = c.loop-i.i in
     let f : ℕ → ℕ = λ i. first_at y r c.args.block i * stride_at y r i in
-    let e : c.first_of.result * c.stride-of-stride.result ≡ f i = ap₂ ◌*◌ c.first_of.ensures (c.stride-of-stride.ensures ∙ ap (λ z. cond (get_or r.kept i false) z 0) c.loop-i.invariant.3) in
-    omega (arith, c.requires.1, c.loop-i.invariant.2, sum_part f i 6 (omega arith))
+    let e : c.first_of.result * c.stride_of-stride.result ≡ f i = ap₂ ◌*◌ c.first_of.ensures (c.stride_of-stride.ensures ∙ ap (λ z. cond (get_or r.kept i false) z 0) c.loop-i.invariant.3) in
+    omega (arith, c.requires.small, c.loop-i.invariant.2, sum_part f i 6 (omega arith))
 
-pub overflow-mul-size : goal.overflow-mul-size
-overflow-mul-size c =
+pub overflow_mul-size : goal.overflow_mul-size
+overflow_mul-size c =
     let y = c.args.layout in
     let r = c.args.region in
     let i = c.loop-i.i in
-    let e : c.loop-i.size * c.radix-of-size.result ≡ big 1 ◌*◌ (radix_at y r) (i + 1) = ap₂ ◌*◌ c.loop-i.invariant.3 c.radix-of-size.ensures ∙ sym (width_more (radix_at y r) i) in
-    omega (arith, c.requires.0 (i + 1) (omega arith))
+    let e : c.loop-i.size * c.radix_of-size.result ≡ big 1 ◌*◌ (radix_at y r) (i + 1) = ap₂ ◌*◌ c.loop-i.invariant.3 c.radix_of-size.ensures ∙ sym (width_more (radix_at y r) i) in
+    omega (arith, c.requires.narrow (i + 1) (omega arith))
 
 pub loop-i-preserved : goal.loop-i-preserved
 loop-i-preserved c =
@@ -40,16 +40,16 @@ loop-i-preserved c =
     let r = c.args.region in
     let i = c.loop-i.i in
     let xs = c.loop-i.strides in
-    let v = c.stride-of-stride.result in
+    let v = c.stride_of-stride.result in
     let f : ℕ → ℕ = λ i. first_at y r c.args.block i * stride_at y r i in
-    let s : v ≡ stride_at y r i = c.stride-of-stride.ensures ∙ ap (λ z. cond (get_or r.kept i false) z 0) c.loop-i.invariant.3 in
+    let s : v ≡ stride_at y r i = c.stride_of-stride.ensures ∙ ap (λ z. cond (get_or r.kept i false) z 0) c.loop-i.invariant.3 in
     let e : c.first_of.result * v ≡ f i = ap₂ ◌*◌ c.first_of.ensures s in (
       length-set xs i v ∙ c.loop-i.invariant.0,
       below_more (λ k. get_or (set xs i v) k 0 ≡ stride_at y r k) i
           (λ k l. get_or-set_other xs i k v 0 (λ q. omega arith) ∙ c.loop-i.invariant.1 k l)
           (get_or-set_same xs i v 0 (omega (arith, c.loop-i.invariant.0)) ∙ s),
       omega (arith, c.loop-i.invariant.2, big_last 0 ◌+◌ sums f i),
-      ap₂ ◌*◌ c.loop-i.invariant.3 c.radix-of-size.ensures ∙ sym (width_more (radix_at y r) i),
+      ap₂ ◌*◌ c.loop-i.invariant.3 c.radix_of-size.ensures ∙ sym (width_more (radix_at y r) i),
     )
 
 pub returns : goal.returns

@@ -4,16 +4,16 @@ use Rattle.runs.specs.Grids.{radix_at}
 use Rattle.runs.proofs.Strides.{width_more}
 use Rattle.runs.proofs.regions.region_len.Goals as goal
 
-pub overflow-mul-size : goal.overflow-mul-size
-overflow-mul-size c =
+pub overflow_mul-size : goal.overflow_mul-size
+overflow_mul-size c =
     let f = radix_at c.args.layout c.args.region in
-    let e : c.loop-i.size * c.radix-of-size.result ≡ big 1 ◌*◌ f (c.loop-i.i + 1) = ap₂ ◌*◌ c.loop-i.invariant c.radix-of-size.ensures ∙ sym (width_more f c.loop-i.i) in
+    let e : c.loop-i.size * c.radix_of-size.result ≡ big 1 ◌*◌ f (c.loop-i.i + 1) = ap₂ ◌*◌ c.loop-i.invariant c.radix_of-size.ensures ∙ sym (width_more f c.loop-i.i) in
     omega (arith, c.requires (c.loop-i.i + 1) (omega arith))
 
 pub loop-i-preserved : goal.loop-i-preserved
 loop-i-preserved c =
     let f = radix_at c.args.layout c.args.region in
-    ap₂ ◌*◌ c.loop-i.invariant c.radix-of-size.ensures ∙ sym (width_more f c.loop-i.i)
+    ap₂ ◌*◌ c.loop-i.invariant c.radix_of-size.ensures ∙ sym (width_more f c.loop-i.i)
 
 pub returns : goal.returns
 returns c =

@@ -4,11 +4,11 @@ use Rattle.runs.proofs.FreshStates.{root_below, adds_below, narrow_from, table_s
 use Rattle.runs.proofs.StateAnswers.{root_mask_is}
 use Rattle.runs.proofs.steps.plan_bases.Goals as goal
 
-pub base-table-requires : goal.base-table-requires
-base-table-requires c =
+pub base_table-requires : goal.base_table-requires
+base_table-requires c =
     let s = c.args.shape.now in
     let p = c.args.plan.now in
-    let k = c.group-count-root in
+    let k = c.group_count-root in
     let e = root_mask_is c.dimensions.result (length (dims_of s)) k.result c.dimensions.ensures k.ensures.0 k.ensures.2 in
     record {
       few = root_below s p c.requires.planned c.added.result c.added.ensures (k.result - 1) e c.args.layout c.requires.laid;
@@ -20,7 +20,7 @@ base-table-requires c =
 pub returns : goal.returns
 returns c =
     let s = c.args.shape.now in
-    let k = c.group-count-root in
+    let k = c.group_count-root in
     record {
       starts = bases_from s c.args.plan.now c.requires.planned c.added.result c.added.ensures (k.result - 1)
           (root_mask_is c.dimensions.result (length (dims_of s)) k.result c.dimensions.ensures k.ensures.0 k.ensures.2)

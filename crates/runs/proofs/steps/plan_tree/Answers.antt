@@ -2,8 +2,8 @@ use Rattle.std.proofs.Common.{arith}
 use Rattle.runs.proofs.FreshStates.{order_in, parents_in, grown_from}
 use Rattle.runs.proofs.steps.plan_tree.Goals as goal
 
-pub tree-of-requires : goal.tree-of-requires
-tree-of-requires c = record {
+pub tree_of-requires : goal.tree_of-requires
+tree_of-requires c = record {
   order = order_in c.args.shape.now c.args.plan.now c.requires c.order.result c.order.ensures;
   parents = parents_in c.args.shape.now c.args.plan.now c.requires c.added.result c.added.ensures;
 }

@@ -6,13 +6,13 @@ use Rattle.runs.proofs.Filling.{radices_countable}
 use Rattle.runs.proofs.Growing.{edges_countable, cells_are, cells_few}
 use Rattle.runs.proofs.tree.block_cells.Goals as goal
 
-pub product-of-requires : goal.product-of-requires
-product-of-requires c =
+pub product_of-requires : goal.product_of-requires
+product_of-requires c =
     let s = c.args.shape.now in
     radices_countable c.dimensions-n.result c.edges.result (edges_countable (dims_of s) c.dimensions-n.result c.edges.result (limits s) c.dimensions-n.ensures c.edges.ensures) (omega arith) c.args.mask c.radices_of.result c.radices_of.ensures
 
-pub overflow-cast-result : goal.overflow-cast-result
-overflow-cast-result c =
+pub overflow_cast-result : goal.overflow_cast-result
+overflow_cast-result c =
     let s = c.args.shape.now in
     omega (
       arith,

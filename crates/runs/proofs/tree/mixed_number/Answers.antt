@@ -7,13 +7,13 @@ use Rattle.runs.proofs.tree.mixed_number.Goals as goal
 pub loop-i-init : goal.loop-i-init
 loop-i-init c = (omega arith, sym (ap (λ ys. number ys (drop 6 c.args.digits)) (drop_all 6 c.args.radices (omega arith))))
 
-pub overflow-mul-found : goal.overflow-mul-found
-overflow-mul-found c =
+pub overflow_mul-found : goal.overflow_mul-found
+overflow_mul-found c =
     let small = number_back_below c.args.radices c.args.digits c.loop-i.i c.loop-i.found c.loop-i-test.true (omega arith) (omega arith) c.requires.inside c.loop-i.invariant.1 in
     omega (arith, c.requires.small)
 
-pub overflow-add-found : goal.overflow-add-found
-overflow-add-found c =
+pub overflow_add-found : goal.overflow_add-found
+overflow_add-found c =
     let small = number_back_below c.args.radices c.args.digits c.loop-i.i c.loop-i.found c.loop-i-test.true (omega arith) (omega arith) c.requires.inside c.loop-i.invariant.1 in
     omega (arith, c.requires.small)
 

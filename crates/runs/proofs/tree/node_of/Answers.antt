@@ -6,11 +6,11 @@ use Rattle.cubes.specs.Scans.{width}
 use Rattle.runs.proofs.Filling.{taken_radices, radices_countable}
 use Rattle.runs.proofs.tree.node_of.Goals as goal
 
-pub width-before-requires : goal.width-before-requires
-width-before-requires c = radices_countable c.args.n c.args.chunks c.requires.numbers (omega arith) (c.args.mask + (1 * 2 ^ c.args.added) % 2 ^ 64) c.radices_of.result c.radices_of.ensures
+pub width_before-requires : goal.width_before-requires
+width_before-requires c = radices_countable c.args.n c.args.chunks c.requires.numbers (omega arith) (c.args.mask + (1 * 2 ^ c.args.added) % 2 ^ 64) c.radices_of.result c.radices_of.ensures
 
-pub width-before-requires-2 : goal.width-before-requires-2
-width-before-requires-2 c = radices_countable c.args.n c.args.chunks c.requires.numbers (omega arith) c.args.mask c.radices-of-2.result c.radices-of-2.ensures
+pub width_before-requires-2 : goal.width_before-requires-2
+width_before-requires-2 c = radices_countable c.args.n c.args.chunks c.requires.numbers (omega arith) c.args.mask c.radices_of-2.result c.radices_of-2.ensures
 
 pub returns : goal.returns
 returns c =
@@ -20,7 +20,7 @@ returns c =
     = c.width_before.ensures.value
     ∙ (ap (λ ys. width (place_in c.args.places) ys (place_in c.args.places c.args.added + 1)) (taken_radices n c.args.chunks c.requires.numbers (omega arith) (c.args.mask + (1 * 2 ^ c.args.added) % 2 ^ 64) c.radices_of.result c.radices_of.ensures)
     ∙ ap (λ x. width (place_in c.args.places) (radix (group n (c.args.mask + x)) (take n c.args.chunks)) (place_in c.args.places c.args.added + 1)) bit) in
-    let share : c.width-before-2.result ≡ width (place_in c.args.places) (radix (group n c.args.mask) (take n c.args.chunks)) (place_in c.args.places c.args.added + 1)
-    = c.width-before-2.ensures.value
-    ∙ ap (λ ys. width (place_in c.args.places) ys (place_in c.args.places c.args.added + 1)) (taken_radices n c.args.chunks c.requires.numbers (omega arith) c.args.mask c.radices-of-2.result c.radices-of-2.ensures) in
+    let share : c.width_before-2.result ≡ width (place_in c.args.places) (radix (group n c.args.mask) (take n c.args.chunks)) (place_in c.args.places c.args.added + 1)
+    = c.width_before-2.ensures.value
+    ∙ ap (λ ys. width (place_in c.args.places) ys (place_in c.args.places c.args.added + 1)) (taken_radices n c.args.chunks c.requires.numbers (omega arith) c.args.mask c.radices_of-2.result c.radices_of-2.ensures) in
     cc

@@ -2,8 +2,8 @@ use Rattle.std.proofs.Common.{◌+◌, arith}
 use Rattle.runs.proofs.Filling.{multiplied_more, multiplied_small, multiplied_all}
 use Rattle.runs.proofs.tree.product_of.Goals as goal
 
-pub overflow-mul-so-far : goal.overflow-mul-so-far
-overflow-mul-so-far c = omega (
+pub overflow_mul-so_far : goal.overflow_mul-so_far
+overflow_mul-so_far c = omega (
   arith,
   multiplied_more c.args.n c.args.radices c.requires (omega arith) c.loop-i.i c.loop-i.so_far (omega arith) c.loop-i.invariant,
   multiplied_small c.args.n c.args.radices c.requires (omega arith) (c.loop-i.i + 1),

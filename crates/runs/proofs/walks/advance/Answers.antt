@@ -4,59 +4,59 @@ use Rattle.shapes.proofs.Numbering.{below_getD}
 use Rattle.runs.proofs.Digits.{digit_is, room, stop_list, stop_place, carry_list, carry_next_digits, carry_place, next_digits_none}
 use Rattle.runs.proofs.walks.advance.Goals as goal
 
-pub overflow-add-digit : goal.overflow-add-digit
-overflow-add-digit c =
+pub overflow_add-digit : goal.overflow_add-digit
+overflow_add-digit c =
     let i = c.loop-i.invariant in
     let la : length c.args.walk.at ≡ length c.args.radices = omega arith in
-    let b = below_getD c.args.radices c.args.walk.at c.loop-i.i 0 0 c.requires.0 (omega arith) in
-    omega (arith, digit_is c.args.radices c.args.from c.args.walk.at c.loop-i.at c.loop-i.i c.loop-i.f c.args.walk.from la (omega arith) (omega arith) i.0 i.1 i.2 c.requires.1.0)
+    let b = below_getD c.args.radices c.args.walk.at c.loop-i.i 0 0 c.requires.below (omega arith) in
+    omega (arith, digit_is c.args.radices c.args.from c.args.walk.at c.loop-i.at c.loop-i.i c.loop-i.f c.args.walk.from la (omega arith) (omega arith) i.0 i.1 i.2 c.requires.reached.0)
 
-pub overflow-add-result : goal.overflow-add-result
-overflow-add-result c =
+pub overflow_add-result : goal.overflow_add-result
+overflow_add-result c =
     let i = c.loop-i.invariant in
-    omega (arith, stop_place c.args.radices c.args.from c.args.walk.at c.loop-i.at c.loop-i.i c.loop-i.f c.args.walk.from (omega arith) (omega arith) (omega arith) i.0 i.1 i.2 c.requires.1.0 c.if-digit-radix.true)
+    omega (arith, stop_place c.args.radices c.args.from c.args.walk.at c.loop-i.at c.loop-i.i c.loop-i.f c.args.walk.from (omega arith) (omega arith) (omega arith) i.0 i.1 i.2 c.requires.reached.0 c.if-digit-radix.true)
 
-pub overflow-add-result-then-digit-radix : goal.overflow-add-result-then-digit-radix
-overflow-add-result-then-digit-radix c =
+pub overflow_add-result-then-digit-radix : goal.overflow_add-result-then-digit-radix
+overflow_add-result-then-digit-radix c =
     let i = c.loop-i.invariant in
-    omega (arith, stop_place c.args.radices c.args.to c.args.walk.at c.loop-i.at c.loop-i.i c.loop-i.t c.args.walk.to (omega arith) (omega arith) (omega arith) i.0 i.1 i.3 c.requires.1.1 c.if-digit-radix.true)
+    omega (arith, stop_place c.args.radices c.args.to c.args.walk.at c.loop-i.at c.loop-i.i c.loop-i.t c.args.walk.to (omega arith) (omega arith) (omega arith) i.0 i.1 i.3 c.requires.reached.1 c.if-digit-radix.true)
 
 pub returns-then-digit-radix : goal.returns-then-digit-radix
 returns-then-digit-radix c =
     let i = c.loop-i.invariant in
     record {
-      at = stop_list c.args.radices c.args.from c.args.walk.at c.loop-i.at c.loop-i.i c.loop-i.f c.args.walk.from (omega arith) (omega arith) (omega arith) i.0 i.1 i.2 c.requires.1.0 c.if-digit-radix.true;
-      from = stop_place c.args.radices c.args.from c.args.walk.at c.loop-i.at c.loop-i.i c.loop-i.f c.args.walk.from (omega arith) (omega arith) (omega arith) i.0 i.1 i.2 c.requires.1.0 c.if-digit-radix.true;
-      to = stop_place c.args.radices c.args.to c.args.walk.at c.loop-i.at c.loop-i.i c.loop-i.t c.args.walk.to (omega arith) (omega arith) (omega arith) i.0 i.1 i.3 c.requires.1.1 c.if-digit-radix.true;
+      at = stop_list c.args.radices c.args.from c.args.walk.at c.loop-i.at c.loop-i.i c.loop-i.f c.args.walk.from (omega arith) (omega arith) (omega arith) i.0 i.1 i.2 c.requires.reached.0 c.if-digit-radix.true;
+      from = stop_place c.args.radices c.args.from c.args.walk.at c.loop-i.at c.loop-i.i c.loop-i.f c.args.walk.from (omega arith) (omega arith) (omega arith) i.0 i.1 i.2 c.requires.reached.0 c.if-digit-radix.true;
+      to = stop_place c.args.radices c.args.to c.args.walk.at c.loop-i.at c.loop-i.i c.loop-i.t c.args.walk.to (omega arith) (omega arith) (omega arith) i.0 i.1 i.3 c.requires.reached.1 c.if-digit-radix.true;
     }
 
-pub overflow-sub-f : goal.overflow-sub-f
-overflow-sub-f c =
+pub overflow_sub-f : goal.overflow_sub-f
+overflow_sub-f c =
     let i = c.loop-i.invariant in
-    room c.args.radices c.args.from c.args.walk.at c.loop-i.at c.loop-i.i c.loop-i.f c.args.walk.from (omega arith) (omega arith) (omega arith) i.0 i.1 i.2 c.requires.1.0
+    room c.args.radices c.args.from c.args.walk.at c.loop-i.at c.loop-i.i c.loop-i.f c.args.walk.from (omega arith) (omega arith) (omega arith) i.0 i.1 i.2 c.requires.reached.0
 
-pub overflow-mul-f : goal.overflow-mul-f
-overflow-mul-f c =
+pub overflow_mul-f : goal.overflow_mul-f
+overflow_mul-f c =
     let i = c.loop-i.invariant in
-    omega (arith, room c.args.radices c.args.from c.args.walk.at c.loop-i.at c.loop-i.i c.loop-i.f c.args.walk.from (omega arith) (omega arith) (omega arith) i.0 i.1 i.2 c.requires.1.0)
+    omega (arith, room c.args.radices c.args.from c.args.walk.at c.loop-i.at c.loop-i.i c.loop-i.f c.args.walk.from (omega arith) (omega arith) (omega arith) i.0 i.1 i.2 c.requires.reached.0)
 
-pub overflow-sub-t : goal.overflow-sub-t
-overflow-sub-t c =
+pub overflow_sub-t : goal.overflow_sub-t
+overflow_sub-t c =
     let i = c.loop-i.invariant in
-    room c.args.radices c.args.to c.args.walk.at c.loop-i.at c.loop-i.i c.loop-i.t c.args.walk.to (omega arith) (omega arith) (omega arith) i.0 i.1 i.3 c.requires.1.1
+    room c.args.radices c.args.to c.args.walk.at c.loop-i.at c.loop-i.i c.loop-i.t c.args.walk.to (omega arith) (omega arith) (omega arith) i.0 i.1 i.3 c.requires.reached.1
 
-pub overflow-mul-t : goal.overflow-mul-t
-overflow-mul-t c =
+pub overflow_mul-t : goal.overflow_mul-t
+overflow_mul-t c =
     let i = c.loop-i.invariant in
-    omega (arith, room c.args.radices c.args.to c.args.walk.at c.loop-i.at c.loop-i.i c.loop-i.t c.args.walk.to (omega arith) (omega arith) (omega arith) i.0 i.1 i.3 c.requires.1.1)
+    omega (arith, room c.args.radices c.args.to c.args.walk.at c.loop-i.at c.loop-i.i c.loop-i.t c.args.walk.to (omega arith) (omega arith) (omega arith) i.0 i.1 i.3 c.requires.reached.1)
 
 pub loop-i-preserved : goal.loop-i-preserved
 loop-i-preserved c =
     let i = c.loop-i.invariant in (
-      carry_list c.args.radices c.args.from c.args.walk.at c.loop-i.at c.loop-i.i c.loop-i.f c.args.walk.from (omega arith) (omega arith) (omega arith) i.0 i.1 i.2 c.requires.1.0,
-      carry_next_digits c.args.radices c.args.from c.args.walk.at c.loop-i.at c.loop-i.i c.loop-i.f c.args.walk.from (omega arith) (omega arith) (omega arith) i.0 i.1 i.2 c.requires.1.0 c.if-digit-radix.false,
-      carry_place c.args.radices c.args.from c.args.walk.at c.loop-i.at c.loop-i.i c.loop-i.f c.args.walk.from (omega arith) (omega arith) (omega arith) i.0 i.1 i.2 c.requires.1.0,
-      carry_place c.args.radices c.args.to c.args.walk.at c.loop-i.at c.loop-i.i c.loop-i.t c.args.walk.to (omega arith) (omega arith) (omega arith) i.0 i.1 i.3 c.requires.1.1,
+      carry_list c.args.radices c.args.from c.args.walk.at c.loop-i.at c.loop-i.i c.loop-i.f c.args.walk.from (omega arith) (omega arith) (omega arith) i.0 i.1 i.2 c.requires.reached.0,
+      carry_next_digits c.args.radices c.args.from c.args.walk.at c.loop-i.at c.loop-i.i c.loop-i.f c.args.walk.from (omega arith) (omega arith) (omega arith) i.0 i.1 i.2 c.requires.reached.0 c.if-digit-radix.false,
+      carry_place c.args.radices c.args.from c.args.walk.at c.loop-i.at c.loop-i.i c.loop-i.f c.args.walk.from (omega arith) (omega arith) (omega arith) i.0 i.1 i.2 c.requires.reached.0,
+      carry_place c.args.radices c.args.to c.args.walk.at c.loop-i.at c.loop-i.i c.loop-i.t c.args.walk.to (omega arith) (omega arith) (omega arith) i.0 i.1 i.3 c.requires.reached.1,
       omega arith,
       omega arith,
     )

@@ -1,22 +1,22 @@
-use Rattle.std.proofs.Common.{◌≡◌, ◌+◌, true, false, ◌&&◌, ltb, [], length, get_or, drop, sym, ap, ◌∙◌, arith}
+use Rattle.std.proofs.Common.{◌+◌, ◌&&◌, [], drop, sym, ap, ◌∙◌, arith}
 use Rattle.std.proofs.lemmas.List.{at_drop_all}
 use Rattle.shapes.specs.Arrays.{inside}
 use Rattle.shapes.proofs.Insides.{inside_at}
 use Rattle.shapes.proofs.numbers.all_below.Goals as goal
 
-pub returns-then-not-is-below : goal.returns-then-not-is-below
-returns-then-not-is-below c =
+pub returns-then-not-is_below : goal.returns-then-not-is_below
+returns-then-not-is_below c =
     let ks = c.args.radices in
     let xs = c.args.digits in
     let i = c.loop-i.i in
-    sym (sym c.loop-i.invariant ∙ (inside_at ks xs i (omega arith) (omega arith) ∙ ap (λ b. b && inside (drop (i + 1) ks) (drop (i + 1) xs)) (sym c.is_below.ensures ∙ c.if-not-is-below.true)))
+    sym (sym c.loop-i.invariant ∙ (inside_at ks xs i (omega arith) (omega arith) ∙ ap (λ b. b && inside (drop (i + 1) ks) (drop (i + 1) xs)) (sym c.is_below.ensures ∙ c.if-not-is_below.true)))
 
 pub loop-i-preserved : goal.loop-i-preserved
 loop-i-preserved c =
     let ks = c.args.radices in
     let xs = c.args.digits in
     let i = c.loop-i.i in
-    sym (inside_at ks xs i (omega arith) (omega arith) ∙ ap (λ b. b && inside (drop (i + 1) ks) (drop (i + 1) xs)) (sym c.is_below.ensures ∙ c.if-not-is-below.false)) ∙ c.loop-i.invariant
+    sym (inside_at ks xs i (omega arith) (omega arith) ∙ ap (λ b. b && inside (drop (i + 1) ks) (drop (i + 1) xs)) (sym c.is_below.ensures ∙ c.if-not-is_below.false)) ∙ c.loop-i.invariant
 
 pub returns : goal.returns
 returns c =

@@ -9,13 +9,13 @@ loop-i-init c =
     let ks = c.args.radices in
     (omega arith, sym (ap (λ ys. number ys (drop 6 c.args.digits)) (drop_all 6 ks (omega arith))))
 
-pub with-digit-s-requires : goal.with-digit-s-requires
-with-digit-s-requires c =
+pub with_digit-s-requires : goal.with_digit-s-requires
+with_digit-s-requires c =
     let small = number_back_below c.args.radices c.args.digits c.loop-i.i c.loop-i.s c.loop-i-test.true (omega arith) (omega arith) c.requires.inside c.loop-i.invariant.1 in
     omega (arith, c.requires.small)
 
 pub loop-i-preserved : goal.loop-i-preserved
-loop-i-preserved c = (omega arith, c.with-digit-s.ensures ∙ number_back c.args.radices c.args.digits c.loop-i.i c.loop-i.s c.loop-i-test.true (omega arith) (omega arith) c.loop-i.invariant.1)
+loop-i-preserved c = (omega arith, c.with_digit-s.ensures ∙ number_back c.args.radices c.args.digits c.loop-i.i c.loop-i.s c.loop-i-test.true (omega arith) (omega arith) c.loop-i.invariant.1)
 
 pub returns : goal.returns
 returns c =

@@ -3,8 +3,8 @@ use Rattle.std.proofs.lemmas.List.{get_or_read}
 use Rattle.sources.proofs.Joining.{no_reading, no_cell, one_reading}
 use Rattle.sources.proofs.cells.join_reading.Goals as goal
 
-pub returns-in-default : goal.returns-in-default
-returns-in-default g c = no_reading g.M.Measure.lawful g.M.Measure.lifted c.args.cells.now c.args.offset c.args.reading c.in-default.ensures
+pub returns-in_default : goal.returns-in_default
+returns-in_default g c = no_reading g.M.Measure.lawful g.M.Measure.lifted c.args.cells.now c.args.offset c.args.reading c.in_default.ensures
 
 pub returns-else-at-cells : goal.returns-else-at-cells
 returns-else-at-cells g c = no_cell g.M.Measure.lawful g.M.Measure.lifted c.args.cells.now c.args.offset c.args.reading c.if-at-cells.false

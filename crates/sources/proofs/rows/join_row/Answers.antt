@@ -3,9 +3,9 @@ use Rattle.shapes.specs.Views.{dims_of}
 use Rattle.sources.proofs.Tabling.{row_nowhere, row_elsewhere, row_here}
 use Rattle.sources.proofs.rows.join_row.Goals as goal
 
-pub returns-in-default : goal.returns-in-default
-returns-in-default g c =
-    row_nowhere g.M.Measure.lawful g.M.Measure.lifted (dims_of c.args.shape.now) c.args.row c.args.number c.args.cells.now (sym c.place.ensures ∙ c.in-default.is)
+pub returns-in_default : goal.returns-in_default
+returns-in_default g c =
+    row_nowhere g.M.Measure.lawful g.M.Measure.lifted (dims_of c.args.shape.now) c.args.row c.args.number c.args.cells.now (sym c.place.ensures ∙ c.in_default.is)
 
 pub returns-then-chunk-number : goal.returns-then-chunk-number
 returns-then-chunk-number g c =

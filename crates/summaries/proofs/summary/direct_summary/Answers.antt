@@ -7,7 +7,7 @@ use Rattle.shapes.specs.Arrays.{Group, group, sizes, volume, none_dim}
 use Rattle.shapes.specs.Views.{dims_of, six}
 use Rattle.shapes.proofs.Held.{dims_few}
 use Rattle.shapes.proofs.Masks.{length-group}
-use Rattle.sources.specs.Meanings.{Meaning, means}
+use Rattle.sources.specs.Meanings.{means}
 use Rattle.summaries.specs.declared.refusals.SummaryRefusal.TheVariants.{Short}
 use Rattle.summaries.specs.Answers.{kept_inside}
 use Rattle.summaries.proofs.Agreeing.{kept_six}
@@ -22,12 +22,12 @@ tested ds es e few m x l gs six_dims r a b c d =
     ∙ (ap (λ t. t && kept_inside (group (length ds) m) (sizes ds) x) d
     ∙ (sym (kept_six (group (length ds) m) ds x (omega (arith, length-group (length ds) m)) (sym (length-group (length ds) m)) l) ∙ sym (c ∙ ap₂ (λ g fs. kept_inside g (sizes fs) x) a b)))
 
-pub returns-then-not-is-kept-inside : goal.returns-then-not-is-kept-inside
-returns-then-not-is-kept-inside g c =
+pub returns-then-not-is_kept_inside : goal.returns-then-not-is_kept_inside
+returns-then-not-is_kept_inside g c =
     let m = means g.S.Shaped.told g.S.Source.contents c.args.source.now in
     let found = group_found (length (dims_of c.shape-shape.result)) c.args.mask c.in-Some.group c.in-Some.ensures in
     let t = tested (dims_of c.shape-shape.result) m.dims c.shape-shape.ensures (dims_few c.shape-shape.result) c.args.mask c.args.at (omega arith) c.in-Some.group c.dims.result c.is_kept_inside.result found.1 c.dims.ensures c.is_kept_inside.ensures found.0 in
-    let a = answer_outside g.M.Measure.empty g.M.Measure.op m c.args.mask c.args.at c.args.cells.now (t ∙ c.if-not-is-kept-inside.true) in
+    let a = answer_outside g.M.Measure.empty g.M.Measure.op m c.args.mask c.args.at c.args.cells.now (t ∙ c.if-not-is_kept_inside.true) in
     record { same = refl; answers = a.0; leaves = a.1 }
 
 pub returns-then-cells-v : goal.returns-then-cells-v
@@ -35,8 +35,8 @@ returns-then-cells-v g c =
     let m = means g.S.Shaped.told g.S.Source.contents c.args.source.now in
     let found = group_found (length (dims_of c.shape-shape.result)) c.args.mask c.in-Some.group c.in-Some.ensures in
     let t = tested (dims_of c.shape-shape.result) m.dims c.shape-shape.ensures (dims_few c.shape-shape.result) c.args.mask c.args.at (omega arith) c.in-Some.group c.dims.result c.is_kept_inside.result found.1 c.dims.ensures c.is_kept_inside.ensures found.0 in
-    let v : c.chunk-cells-v.result ≡ volume m.dims = c.chunk-cells-v.ensures ∙ ap volume c.shape-shape.ensures in
-    let a = answer_short g.M.Measure.empty g.M.Measure.op m c.args.mask c.args.at c.args.cells.now (t ∙ c.if-not-is-kept-inside.false) (lt-ltb (length c.args.cells.now) (volume m.dims) (omega arith)) in
+    let v : c.chunk_cells-v.result ≡ volume m.dims = c.chunk_cells-v.ensures ∙ ap volume c.shape-shape.ensures in
+    let a = answer_short g.M.Measure.empty g.M.Measure.op m c.args.mask c.args.at c.args.cells.now (t ∙ c.if-not-is_kept_inside.false) (lt-ltb (length c.args.cells.now) (volume m.dims) (omega arith)) in
     record { same = refl; answers = ap (λ n. Err (Short n)) v ∙ a.0; leaves = a.1 }
 
 pub returns : goal.returns
@@ -46,16 +46,16 @@ returns g c =
     let n = length m.dims in
     let found = group_found (length (dims_of c.shape-shape.result)) c.args.mask c.in-Some.group c.in-Some.ensures in
     let t = tested (dims_of c.shape-shape.result) m.dims c.shape-shape.ensures (dims_few c.shape-shape.result) c.args.mask c.args.at (omega arith) c.in-Some.group c.dims.result c.is_kept_inside.result found.1 c.dims.ensures c.is_kept_inside.ensures found.0 in
-    let v : c.chunk-cells-v.result ≡ volume m.dims = c.chunk-cells-v.ensures ∙ ap volume c.shape-shape.ensures in
-    let v0 : c.chunk-cells-v.result - 0 ≡ volume m.dims = sub-zero c.chunk-cells-v.result ∙ v in
+    let v : c.chunk_cells-v.result ≡ volume m.dims = c.chunk_cells-v.ensures ∙ ap volume c.shape-shape.ensures in
+    let v0 : c.chunk_cells-v.result - 0 ≡ volume m.dims = sub-zero c.chunk_cells-v.result ∙ v in
     let room : volume m.dims ≤ length c.args.cells.now = omega arith in
-    let a = answer_told empty g.M.Measure.op m c.args.mask c.args.at c.args.cells.now (t ∙ c.if-not-is-kept-inside.false) (le-ltb (length c.args.cells.now) (volume m.dims) room) in
+    let a = answer_told empty g.M.Measure.op m c.args.mask c.args.at c.args.cells.now (t ∙ c.if-not-is_kept_inside.false) (le-ltb (length c.args.cells.now) (volume m.dims) room) in
     let own : c.in-Some.group ≡ six false (group n c.args.mask) = found.1 ∙ ap (λ (ds : List Dim). six false (group (length ds) c.args.mask)) c.shape-shape.ensures in
-    let sum = c.sum-of-chunks-sum.ensures in
-    let front : length (take (c.chunk-cells-v.result - 0) c.sum-of-chunks-sum.new.cells) ≡ volume m.dims = length-take (c.chunk-cells-v.result - 0) c.sum-of-chunks-sum.new.cells ∙ omega arith in
+    let sum = c.sum_of_chunks-sum.ensures in
+    let front : length (take (c.chunk_cells-v.result - 0) c.sum_of_chunks-sum.new.cells) ≡ volume m.dims = length-take (c.chunk_cells-v.result - 0) c.sum_of_chunks-sum.new.cells ∙ omega arith in
     record {
       same = sum.same;
       answers = ap Ok (sum.sum (group n c.args.mask) (length-group n c.args.mask) own) ∙ a.0;
       leaves =
-          ap₂ (λ (xs ys : List g.row.M.Denot). xs ++ ys) (c.empty_cells.ensures ∙ ap (λ k. replicate k empty) front) (ap (λ k. drop k c.sum-of-chunks-sum.new.cells) v0 ∙ sum.rest) ∙ a.1;
+          ap₂ (λ (xs ys : List g.row.M.Denot). xs ++ ys) (c.empty_cells.ensures ∙ ap (λ k. replicate k empty) front) (ap (λ k. drop k c.sum_of_chunks-sum.new.cells) v0 ∙ sum.rest) ∙ a.1;
     }

@@ -1,5 +1,4 @@
-use Rattle.std.proofs.Common.{◌≡◌, ℕ, ◌+◌, length, drop, sym, ap, ◌∙◌, subst, ap₂, arith}
-use Rattle.shapes.specs.declared.dims.Dim.{Dim}
+use Rattle.std.proofs.Common.{◌≡◌, length, drop, sym, ap, ◌∙◌, subst, ap₂, arith}
 use Rattle.shapes.specs.Arrays.{volume, total_chunks}
 use Rattle.shapes.specs.Views.{dims_of}
 use Rattle.shapes.proofs.Held.{limits}
@@ -34,7 +33,7 @@ returns g c =
     let m = means g.S.Shaped.told g.S.Source.contents c.args.source.now in
     let inv = c.loop-number.invariant in
     let divided : Divided m.dims = subst Divided c.requires.shaped (limits_divided (dims_of c.args.shape.now) (limits c.args.shape.now)) in
-    let all : c.loop-number.number ≡ total_chunks m.dims = omega (arith, c.total-chunks-number-end.ensures, ap total_chunks c.requires.shaped) in
+    let all : c.loop-number.number ≡ total_chunks m.dims = omega (arith, c.total_chunks-number-end.ensures, ap total_chunks c.requires.shaped) in
     record {
       same = inv.0;
       sum = λ h long e.

@@ -1,4 +1,4 @@
-use Rattle.std.proofs.Common.{◌≡◌, ℕ, ◌+◌, ◌-◌, ◌*◌, ◌≤◌, length}
+use Rattle.std.proofs.Common.{◌≡◌, ◌+◌, length}
 use Rattle.shapes.specs.Views.{dims_of}
 use Rattle.chunk_writers.specs.Keys.{Cut}
 use Rattle.chunk_writers.specs.Tables.{cells_in}

@@ -1,8 +1,8 @@
-use Rattle.std.proofs.Common.{◌≡◌, ℕ, ◌+◌, ◌-◌, ◌*◌, ◌≤◌, length, drop}
+use Rattle.std.proofs.Common.{◌≡◌, ◌+◌, ◌*◌, length, drop}
 use Rattle.std.specs.List.{flat_map}
 use Rattle.shapes.specs.Arrays.{volume}
 use Rattle.shapes.specs.Views.{dims_of}
-use Rattle.chunk_files.specs.Layouts.{bodies_at, directory_at, entry_bytes}
+use Rattle.chunk_files.specs.Layouts.{entry_bytes}
 use Rattle.chunk_writers.specs.Keys.{Cut}
 use Rattle.chunk_writers.specs.Tables.{cells_in}
 use Rattle.chunk_writers.specs.Written.{put, entries_of, file_bytes}

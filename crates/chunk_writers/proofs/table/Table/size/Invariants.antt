@@ -1,5 +1,5 @@
 use Rattle.std.proofs.Common.{◌≡◌, ℕ, ◌+◌, ◌-◌, ◌*◌, ◌≤◌, length}
-use Rattle.shapes.specs.Arrays.{volume, total_chunks}
+use Rattle.shapes.specs.Arrays.{total_chunks}
 use Rattle.shapes.specs.Views.{dims_of}
 use Rattle.chunk_files.specs.Layouts.{bodies_at}
 use Rattle.chunk_writers.specs.Keys.{Cut}

@@ -8,8 +8,8 @@ use Rattle.plans.proofs.LeastNeed.{least_need, need_bounded}
 use Rattle.plans.proofs.Planning.{few_dims, edged_dims, taken_dims}
 use Rattle.plans.proofs.plan.Plan.of.Goals as goal
 
-pub plan-of-requires : goal.plan-of-requires
-plan-of-requires c =
+pub plan_of-requires : goal.plan_of-requires
+plan_of-requires c =
     let s = c.args.shape.now in
     let e : dims_of s ≡ take c.dimensions.result c.dims-dims.result = sym (taken_dims s c.dimensions.result c.dims-dims.result c.dimensions.ensures c.dims-dims.ensures) in
     record {

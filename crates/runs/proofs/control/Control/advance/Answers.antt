@@ -7,19 +7,19 @@ count-requires c =
     let g = c.requires.controlled in
     (mask_small g.dims g.place g.adds c.args.self.now g.controls c.in-Some.mask c.in-Some.is, omega (arith, count_small g.dims g.place g.adds c.args.self.now g.controls c.in-Some.mask c.in-Some.is))
 
-pub overflow-add-self : goal.overflow-add-self
-overflow-add-self c = let g = c.requires.controlled in omega (arith, handed_few g.dims g.place g.adds c.args.self.now g.controls)
+pub overflow_add-self : goal.overflow_add-self
+overflow_add-self c = let g = c.requires.controlled in omega (arith, handed_few g.dims g.place g.adds c.args.self.now g.controls)
 
 pub returns-in-Some : goal.returns-in-Some
 returns-in-Some c = record {
   same_tree = refl;
   same_passed = refl;
   one_handed = refl;
-  controls = λ ds place adds s. controls_hand ds place adds c.args.self.now s c.in-Some.mask c.in-Some.is c.count.new.self c.next-after-self.result c.count.ensures c.next-after-self.ensures;
+  controls = λ ds place adds s. controls_hand ds place adds c.args.self.now s c.in-Some.mask c.in-Some.is c.count.new.self c.next_after-self.result c.count.ensures c.next_after-self.ensures;
 }
 
-pub next-after-self-requires : goal.next-after-self-requires
-next-after-self-requires c =
+pub next_after-self-requires : goal.next_after-self-requires
+next_after-self-requires c =
     let g = c.requires.controlled in (
       record { dims = g.dims; place = g.place; adds = g.adds; grown = g.controls.grown },
       next_below g.dims g.place g.adds c.args.self.now g.controls c.in-Some.mask c.in-Some.is,

@@ -1,4 +1,3 @@
-use Rattle.std.proofs.Common.{◌≡◌, ap, ◌∙◌}
 use Rattle.runs.proofs.Stepping.{done_is, done_all, done_fits}
 use Rattle.runs.proofs.control.Control.is_done.Goals as goal
 

@@ -2,8 +2,8 @@ use Rattle.std.proofs.Common.{refl, arith}
 use Rattle.runs.proofs.Stepping.{passed_few, controls_pass}
 use Rattle.runs.proofs.control.Control.pass.Goals as goal
 
-pub overflow-add-self : goal.overflow-add-self
-overflow-add-self c = let g = c.requires.controlled in omega (arith, passed_few g.dims g.place g.adds c.args.self.now g.controls)
+pub overflow_add-self : goal.overflow_add-self
+overflow_add-self c = let g = c.requires.controlled in omega (arith, passed_few g.dims g.place g.adds c.args.self.now g.controls)
 
 pub returns : goal.returns
 returns c = record {

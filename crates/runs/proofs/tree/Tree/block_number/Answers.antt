@@ -5,16 +5,16 @@ use Rattle.runs.proofs.Filling.{block_inside, block_small, block_number_is}
 use Rattle.runs.proofs.Naming.{radix_taken, block_radix_few, block_radix_small}
 use Rattle.runs.proofs.tree.Tree.block_number.Goals as goal
 
-pub mixed-number-requires : goal.mixed-number-requires
-mixed-number-requires c =
+pub mixed_number-requires : goal.mixed_number-requires
+mixed_number-requires c =
     let tr = c.args.self.now in
     let g = c.requires in
     let ks = radix (group (length g.dims) c.args.mask) (counts g.dims) in
     let few = block_radix_few g.dims g.place g.adds tr g.grown c.args.mask in
-    let rs : c.radices-of-radices.result ≡ six 1 ks = c.radices-of-radices.ensures ∙ ap (six 1) (radix_taken g.dims g.place g.adds tr g.grown c.args.mask) in
+    let rs : c.radices_of-radices.result ≡ six 1 ks = c.radices_of-radices.ensures ∙ ap (six 1) (radix_taken g.dims g.place g.adds tr g.grown c.args.mask) in
     record {
-      inside = block_inside ks c.radices-of-radices.result g.coordinates c.args.at few rs g.filled g.below (omega arith);
-      small = block_small ks c.radices-of-radices.result g.coordinates c.args.at few rs g.filled g.below (block_radix_small g.dims g.place g.adds tr g.grown c.args.mask);
+      inside = block_inside ks c.radices_of-radices.result g.coordinates c.args.at few rs g.filled g.below (omega arith);
+      small = block_small ks c.radices_of-radices.result g.coordinates c.args.at few rs g.filled g.below (block_radix_small g.dims g.place g.adds tr g.grown c.args.mask);
     }
 
 pub returns : goal.returns
@@ -22,5 +22,5 @@ returns c = λ ds place adds g cs b x.
     let tr = c.args.self.now in
     let ks = radix (group (length ds) c.args.mask) (counts ds) in
     let few = block_radix_few ds place adds tr g c.args.mask in
-    let rs : c.radices-of-radices.result ≡ six 1 ks = c.radices-of-radices.ensures ∙ ap (six 1) (radix_taken ds place adds tr g c.args.mask) in
-    c.mixed_number.ensures ∙ block_number_is ks c.radices-of-radices.result cs c.args.at few rs x b (omega arith)
+    let rs : c.radices_of-radices.result ≡ six 1 ks = c.radices_of-radices.ensures ∙ ap (six 1) (radix_taken ds place adds tr g c.args.mask) in
+    c.mixed_number.ensures ∙ block_number_is ks c.radices_of-radices.result cs c.args.at few rs x b (omega arith)

@@ -1,8 +1,7 @@
-use Rattle.std.proofs.Common.{◌≡◌, ◌/◌, ◌%◌, length, get_or, sym, ap, ◌∙◌, arith}
+use Rattle.std.proofs.Common.{sym, ap, ◌∙◌, arith}
 use Rattle.std.proofs.lemmas.List.{length-map}
 use Rattle.shapes.specs.Arrays.{counts, chunks}
 use Rattle.shapes.specs.Views.{dims_of}
-use Rattle.shapes.specs.declared.dims.Dim.{Dim}
 use Rattle.shapes.proofs.Held.{dims_long, dims_few, held_more, held_all, count_at}
 use Rattle.shapes.proofs.shape.Shape.chunk_counts.Goals as goal
 

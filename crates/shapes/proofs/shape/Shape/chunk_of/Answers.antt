@@ -1,5 +1,4 @@
-use Rattle.std.proofs.Common.{◌≡◌, ◌/◌, ◌%◌, length, get_or, sym, ap, ◌∙◌, arith}
-use Rattle.std.proofs.lemmas.List.{length-map}
+use Rattle.std.proofs.Common.{◌/◌, get_or, sym, ap, ◌∙◌, arith}
 use Rattle.shapes.specs.Arrays.{chunk_of}
 use Rattle.shapes.specs.Views.{dims_of}
 use Rattle.shapes.specs.declared.dims.Dim.{Dim}

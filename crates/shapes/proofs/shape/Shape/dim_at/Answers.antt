@@ -1,6 +1,5 @@
 use Rattle.std.proofs.Common.{sym, subst}
 use Rattle.shapes.specs.Limits.{Fit}
-use Rattle.shapes.specs.declared.dims.Dim.{Dim}
 use Rattle.shapes.proofs.Held.{dim_held, dim_fits}
 use Rattle.shapes.proofs.shape.Shape.dim_at.Goals as goal
 

@@ -12,88 +12,86 @@ use Rattle.shapes.proofs.Limited.{accepts_limits, limits_from, shape_unfit, shap
 use Rattle.shapes.proofs.Making.{taken, long, past_last, all_product, all_fit, factors_fit, chunks_are, cells_some}
 use Rattle.shapes.proofs.shape.Shape.new.Goals as goal
 
-pub returns-in-err-check-dims : goal.returns-in-err-check-dims
-returns-in-err-check-dims c =
+pub returns-in_err-check_dims : goal.returns-in_err-check_dims
+returns-in_err-check_dims c =
     let ds = c.args.dims.now in
-    let p = err_from_is_err_and c.from-residual.result c.from-residual.ensures.1 in
-    let e : c.from-residual.result ≡ Err c.in-err-check-dims.field-0.0 = p.1 ∙ ap Err p.2 in
-    let f = shape_unfit ds (omega arith) (omega arith) (shape_refusal c.in-err-check-dims.field-0.0) c.in-err-check-dims.ensures in
+    let p = err_from_is_err_and c.from_residual.result c.from_residual.ensures.1 in
+    let e : c.from_residual.result ≡ Err c.in_err-check_dims.field-0.0 = p.1 ∙ ap Err p.2 in
+    let f = shape_unfit ds (omega arith) (omega arith) (shape_refusal c.in_err-check_dims.field-0.0) c.in_err-check_dims.ensures in
     record {
       answer = subst (λ r. MatchResult r (λ (s : Shape). (shape_fault ds ≡ None) × (dims_of s ≡ ds)) (λ e. shape_fault ds ≡ Some (shape_refusal e))) (sym e) f;
-      limits = accepts_limits ds shape_refusal c.from-residual.result (subst (λ (r : Result Shape ShapeRefusal). MatchResult r (λ _. shape_fault ds ≡ None) (λ e. shape_fault ds ≡ Some (shape_refusal e))) (sym e) f);
+      limits = accepts_limits ds shape_refusal c.from_residual.result (subst (λ (r : Result Shape ShapeRefusal). MatchResult r (λ _. shape_fault ds ≡ None) (λ e. shape_fault ds ≡ Some (shape_refusal e))) (sym e) f);
     }
 
-pub product-within-requires : goal.product-within-requires
-product-within-requires c =
+pub product_within-requires : goal.product_within-requires
+product_within-requires c =
     let ds = c.args.dims.now in
-    record { some = omega arith; small = omega arith; each = factors_fit ds c.filled-up-all.result c.filled-up-all.ensures (omega arith) c.in-ok-check-dims.ensures (λ (d : Dim). d.edge) c.six_edges.result c.six_edges.ensures (λ d f. (f.2, omega (arith, f.1, f.3))) }
+    record { some = omega arith; small = omega arith; each = factors_fit ds c.filled_up-all.result c.filled_up-all.ensures (omega arith) c.in_ok-check_dims.ensures (λ (d : Dim). d.edge) c.six_edges.result c.six_edges.ensures (λ d f. (f.2, omega (arith, f.1, f.3))) }
 
-pub product-within-requires-2 : goal.product-within-requires-2
-product-within-requires-2 c =
+pub product_within-requires-2 : goal.product_within-requires-2
+product_within-requires-2 c =
     let ds = c.args.dims.now in
-    record { some = omega arith; small = omega arith; each = factors_fit ds c.filled-up-all.result c.filled-up-all.ensures (omega arith) c.in-ok-check-dims.ensures (λ (d : Dim). d.size) c.six_sizes.result c.six_sizes.ensures (λ d f. (f.0, f.1)) }
+    record { some = omega arith; small = omega arith; each = factors_fit ds c.filled_up-all.result c.filled_up-all.ensures (omega arith) c.in_ok-check_dims.ensures (λ (d : Dim). d.size) c.six_sizes.result c.six_sizes.ensures (λ d f. (f.0, f.1)) }
 
-pub returns-in-default : goal.returns-in-default
-returns-in-default c =
+pub returns-in_default : goal.returns-in_default
+returns-in_default c =
     let ds = c.args.dims.now in
-    let v : product c.six_edges.result ≡ volume ds = ap product c.six_edges.ensures ∙ all_product ds c.filled-up-all.result c.filled-up-all.ensures (omega arith) (λ (d : Dim). d.edge) refl in
-    let f = shape_voluminous ds (omega arith) (omega arith) c.in-ok-check-dims.ensures (omega (arith, v, c.in-default.ensures)) in
+    let v : product c.six_edges.result ≡ volume ds = ap product c.six_edges.ensures ∙ all_product ds c.filled_up-all.result c.filled_up-all.ensures (omega arith) (λ (d : Dim). d.edge) refl in
+    let f = shape_voluminous ds (omega arith) (omega arith) c.in_ok-check_dims.ensures (omega (arith, v, c.in_default.ensures)) in
     record { answer = f; limits = accepts_limits {S = Shape} ds shape_refusal (Err Volume) f }
 
-pub returns-in-default-product-within : goal.returns-in-default-product-within
-returns-in-default-product-within c =
+pub returns-in_default-product_within : goal.returns-in_default-product_within
+returns-in_default-product_within c =
     let ds = c.args.dims.now in
-    let v : product c.six_edges.result ≡ volume ds = ap product c.six_edges.ensures ∙ all_product ds c.filled-up-all.result c.filled-up-all.ensures (omega arith) (λ (d : Dim). d.edge) refl in
-    let x : product c.six_sizes.result ≡ extent ds = ap product c.six_sizes.ensures ∙ all_product ds c.filled-up-all.result c.filled-up-all.ensures (omega arith) (λ (d : Dim). d.size) refl in
+    let v : product c.six_edges.result ≡ volume ds = ap product c.six_edges.ensures ∙ all_product ds c.filled_up-all.result c.filled_up-all.ensures (omega arith) (λ (d : Dim). d.edge) refl in
+    let x : product c.six_sizes.result ≡ extent ds = ap product c.six_sizes.ensures ∙ all_product ds c.filled_up-all.result c.filled_up-all.ensures (omega arith) (λ (d : Dim). d.size) refl in
     let k = c.in-Some.ensures in
-    let f = shape_extensive ds (omega arith) (omega arith) c.in-ok-check-dims.ensures (omega (arith, v)) (omega (arith, x, c.in-default-product-within.ensures)) in
+    let f = shape_extensive ds (omega arith) (omega arith) c.in_ok-check_dims.ensures (omega (arith, v)) (omega (arith, x, c.in_default-product_within.ensures)) in
     record { answer = f; limits = accepts_limits {S = Shape} ds shape_refusal (Err Extent) f }
 
-pub nonzero-div-result : goal.nonzero-div-result
-nonzero-div-result c =
+pub nonzero_div-result : goal.nonzero_div-result
+nonzero_div-result c =
     let ds = c.args.dims.now in
-    let v : product c.six_edges.result ≡ volume ds = ap product c.six_edges.ensures ∙ all_product ds c.filled-up-all.result c.filled-up-all.ensures (omega arith) (λ (d : Dim). d.edge) refl in
+    let v : product c.six_edges.result ≡ volume ds = ap product c.six_edges.ensures ∙ all_product ds c.filled_up-all.result c.filled_up-all.ensures (omega arith) (λ (d : Dim). d.edge) refl in
     let k = c.in-Some.ensures in
-    let one = cells_some ds c.filled-up-all.result c.filled-up-all.ensures (omega arith) c.in-ok-check-dims.ensures in
+    let one = cells_some ds c.filled_up-all.result c.filled_up-all.ensures (omega arith) c.in_ok-check_dims.ensures in
     omega arith
 
-pub invariant-of-result : goal.invariant-of-result
-invariant-of-result c =
+pub invariant_of-result : goal.invariant_of-result
+invariant_of-result c =
     let ds = c.args.dims.now in
-    let all = c.filled-up-all.result in
-    let is_six = c.filled-up-all.ensures in
+    let all = c.filled_up-all.result in
+    let is_six = c.filled_up-all.ensures in
     let few : length ds ≤ 6 = omega arith in
-    let sound = c.in-ok-check-dims.ensures in
+    let sound = c.in_ok-check_dims.ensures in
     let t : take (length ds) all ≡ ds = taken ds all is_six few in
     let v : c.in-Some.cells ≡ volume ds = c.in-Some.ensures.0 ∙ (ap product c.six_edges.ensures ∙ all_product ds all is_six few (λ (d : Dim). d.edge) refl) in
-    let x : c.in-Some-product-within.extent ≡ extent ds = c.in-Some-product-within.ensures.0 ∙ (ap product c.six_sizes.ensures ∙ all_product ds all is_six few (λ (d : Dim). d.size) refl) in
+    let x : c.in-Some-product_within.extent ≡ extent ds = c.in-Some-product_within.ensures.0 ∙ (ap product c.six_sizes.ensures ∙ all_product ds all is_six few (λ (d : Dim). d.size) refl) in
     let v_low = c.in-Some.ensures.1 in
-    let x_low = c.in-Some-product-within.ensures.1 in
+    let x_low = c.in-Some-product_within.ensures.1 in
     let v_at : volume (take (length ds) all) ≡ volume ds = ap volume t in
-    let x_at : extent (take (length ds) all) ≡ extent ds = ap extent t in (
-      long ds all is_six few,
-      (
-        (omega arith, few),
-        (
-          (λ i h. all_fit ds all is_six few sound i (omega arith)),
-          (
-            (λ i h. (ap (λ (d : Dim). d.size) (past_last ds all is_six few i h), ap (λ (d : Dim). d.edge) (past_last ds all is_six few i h))),
-            (omega (arith, v, v_at), (omega (arith, x, x_at), (v ∙ sym v_at, (chunks_are ds all is_six few sound c.in-Some-product-within.extent c.in-Some.cells x v ∙ ap total_chunks (sym t), tt)))),
-          ),
-        ),
-      ),
-    )
+    let x_at : extent (take (length ds) all) ≡ extent ds = ap extent t in
+    record {
+      six = long ds all is_six few;
+      few = (omega arith, few);
+      each = λ i h. all_fit ds all is_six few sound i (omega arith);
+      past = λ i h. (ap (λ (d : Dim). d.size) (past_last ds all is_six few i h), ap (λ (d : Dim). d.edge) (past_last ds all is_six few i h));
+      small_chunk = omega (arith, v, v_at);
+      small_array = omega (arith, x, x_at);
+      volumes = v ∙ sym v_at;
+      totals = chunks_are ds all is_six few sound c.in-Some-product_within.extent c.in-Some.cells x v ∙ ap total_chunks (sym t);
+    }
 
 pub returns : goal.returns
 returns c =
     let ds = c.args.dims.now in
-    let all = c.filled-up-all.result in
-    let is_six = c.filled-up-all.ensures in
+    let all = c.filled_up-all.result in
+    let is_six = c.filled_up-all.ensures in
     let few : length ds ≤ 6 = omega arith in
-    let sound = c.in-ok-check-dims.ensures in
+    let sound = c.in_ok-check_dims.ensures in
     let v : c.in-Some.cells ≡ volume ds = c.in-Some.ensures.0 ∙ (ap product c.six_edges.ensures ∙ all_product ds all is_six few (λ (d : Dim). d.edge) refl) in
-    let x : c.in-Some-product-within.extent ≡ extent ds = c.in-Some-product-within.ensures.0 ∙ (ap product c.six_sizes.ensures ∙ all_product ds all is_six few (λ (d : Dim). d.size) refl) in
+    let x : c.in-Some-product_within.extent ≡ extent ds = c.in-Some-product_within.ensures.0 ∙ (ap product c.six_sizes.ensures ∙ all_product ds all is_six few (λ (d : Dim). d.size) refl) in
     let v_low = c.in-Some.ensures.1 in
-    let x_low = c.in-Some-product-within.ensures.1 in
+    let x_low = c.in-Some-product_within.ensures.1 in
     let f = shape_good ds (omega arith) few sound (omega (arith, v)) (omega (arith, x)) in
     record { answer = (f, taken ds all is_six few); limits = (λ _. limits_from ds f, λ _. refl) }

@@ -4,13 +4,13 @@ use Rattle.shapes.specs.Views.{dims_of}
 use Rattle.sources.specs.Rows.{first_outside, refuse_row}
 use Rattle.sources.proofs.rows.RowTable.check.Goals as goal
 
-pub returns-then-not-is-in-range : goal.returns-then-not-is-in-range
-returns-then-not-is-in-range c =
+pub returns-then-not-is_in_range : goal.returns-then-not-is_in_range
+returns-then-not-is_in_range c =
     let ds = dims_of c.args.self.now.shape in
     let rows = c.args.self.now.rows.now in
     let i = c.loop-row.row in
     let step = at_drop_more (first_outside ds i) rows i _ (omega arith) in
-    ap refuse_row (ap (λ b. cond b (first_outside ds (i + 1) (drop (i + 1) rows)) (Some i)) c.if-not-is-in-range.ensures ∙ sym step ∙ c.loop-row.invariant)
+    ap refuse_row (ap (λ b. cond b (first_outside ds (i + 1) (drop (i + 1) rows)) (Some i)) c.if-not-is_in_range.ensures ∙ sym step ∙ c.loop-row.invariant)
 
 pub loop-row-preserved : goal.loop-row-preserved
 loop-row-preserved c =
@@ -18,7 +18,7 @@ loop-row-preserved c =
     let rows = c.args.self.now.rows.now in
     let i = c.loop-row.row in
     let step = at_drop_more (first_outside ds i) rows i _ (omega arith) in
-    ap (λ b. cond b (first_outside ds (i + 1) (drop (i + 1) rows)) (Some i)) c.if-not-is-in-range.ensures ∙ sym step ∙ c.loop-row.invariant
+    ap (λ b. cond b (first_outside ds (i + 1) (drop (i + 1) rows)) (Some i)) c.if-not-is_in_range.ensures ∙ sym step ∙ c.loop-row.invariant
 
 pub returns : goal.returns
 returns c =

@@ -9,16 +9,16 @@ use Rattle.sources.proofs.Alikes.{room_refused, room_granted, full_answer, full_
 use Rattle.sources.proofs.Tabling.{fresh_cells}
 use Rattle.sources.proofs.rows.RowTableSource.fetch.Goals as goal
 
-pub returns-in-err-v : goal.returns-in-err-v
-returns-in-err-v g c =
+pub returns-in_err-v : goal.returns-in_err-v
+returns-in_err-v g c =
     let m = g.M.Measure in
     let ds = dims_of c.args.self.now.shape in
     let rows = c.args.self.now.rows.now in
     let k = c.args.number in
     let xs = c.args.into.now in
     let means : Meaning g.row.M.Denot = record { dims = ds; chunk = row_chunks m.empty m.op m.lifted ds rows } in
-    let refusal = err_from_is_err_and c.from-residual.result c.from-residual.ensures.1 in
-    let refused = room_refused m.empty means k _ xs (sym c.check_room.ensures ∙ c.in-err-v.was) in
+    let refusal = err_from_is_err_and c.from_residual.result c.from_residual.ensures.1 in
+    let refused = room_refused m.empty means k _ xs (sym c.check_room.ensures ∙ c.in_err-v.was) in
     record {
       same = refl;
       sized = λ k below. length-map-range_with_len (row_value m.empty m.op m.lifted ds rows k) 0 (volume ds);
@@ -33,9 +33,9 @@ returns g c =
     let rows = c.args.self.now.rows.now in
     let k = c.args.number in
     let xs = c.args.into.now in
-    let v = c.in-ok-v.v in
+    let v = c.in_ok-v.v in
     let means : Meaning g.row.M.Denot = record { dims = ds; chunk = row_chunks m.empty m.op m.lifted ds rows } in
-    let room = room_granted m.empty means k v (length xs) (sym c.check_room.ensures ∙ c.in-ok-v.was) in
+    let room = room_granted m.empty means k v (length xs) (sym c.check_room.ensures ∙ c.in_ok-v.was) in
     let is_v = room.2 in
     let fits = room.1 in
     record {

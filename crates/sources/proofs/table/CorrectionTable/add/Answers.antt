@@ -9,5 +9,5 @@ pub returns : goal.returns
 returns c =
     let t = c.args.self.now in
     let long = length-take t.used t.held in
-    let grown = added (dims_of c.args.shape.now) (held_in t) c.args.correction (sym c.if-not-is-in-range.ensures) (omega arith) in
+    let grown = added (dims_of c.args.shape.now) (held_in t) c.args.correction (sym c.if-not-is_in_range.ensures) (omega arith) in
     record { answers = grown.0; table = take_more_set t.held t.used c.args.correction (omega arith) ∙ grown.1 }
