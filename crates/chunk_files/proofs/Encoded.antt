@@ -1,6 +1,6 @@
 -- Numbers and records in bytes, read back.
 use Rattle.std.proofs.Common.{◌≡◌, ℕ, zero, suc, ◌+◌, ◌*◌, ◌/◌, ◌%◌, ◌^◌, ◌<◌, List, [], ◌∷◌, ◌++◌, map, length, get_or, sym, refl, ap, ◌∙◌, add-zero, add_assoc, arith}
-use Rattle.std.specs.List.{range_with_len, flat_map, AllByRecursion as All}
+use Rattle.std.specs.List.{range_with_len, flat_map, AllByRecursion}
 use Rattle.std.proofs.lemmas.List.{append_assoc, get_or-append-add, length-append}
 use Rattle.std.proofs.lemmas.Nat.{shr-shr}
 use Rattle.std.proofs.lemmas.List.FromFn.{fill_by_all}
@@ -46,7 +46,7 @@ module _ {X : Type 0} (enc : X → List ℕ) (dec : List ℕ → ℕ → X) (w :
   length_records [] = omega arith
   length_records (x ∷ xs) = let a = length-append (enc x) (flat_map enc xs) in let b = wide x in let c = length_records xs in omega arith
 
-  pub record_at : (xs : List X) (pre post : List ℕ) (at k : ℕ) (d : X) → All Good xs → length pre ≡ at → k < length xs → dec (pre ++ (flat_map enc xs ++ post)) (at + w * k) ≡ get_or xs k d
+  pub record_at : (xs : List X) (pre post : List ℕ) (at k : ℕ) (d : X) → AllByRecursion Good xs → length pre ≡ at → k < length xs → dec (pre ++ (flat_map enc xs ++ post)) (at + w * k) ≡ get_or xs k d
   record_at [] pre post at k d g e l = let z : ⊥ = omega arith in absurd z
   record_at (x ∷ xs) pre post at zero d g e l =
       let z : at + w * 0 ≡ length pre = omega arith in
@@ -57,7 +57,7 @@ module _ {X : Type 0} (enc : X → List ℕ) (dec : List ℕ → ℕ → X) (w :
       let s : pre ++ ((enc x ++ flat_map enc xs) ++ post) ≡ (pre ++ enc x) ++ (flat_map enc xs ++ post) = ap (λ ys. pre ++ ys) (append_assoc (enc x) (flat_map enc xs) post) ∙ sym (append_assoc pre (enc x) (flat_map enc xs ++ post)) in
       (λ i. dec (s i) (z i)) ∙ record_at xs (pre ++ enc x) post (at + w) k d g.1 (omega arith) (omega arith)
 
-  pub records_back : (xs : List X) (pre post : List ℕ) (at : ℕ) (d : X) → All Good xs → length pre ≡ at → map (λ k. dec (pre ++ (flat_map enc xs ++ post)) (at + w * k)) (range_with_len 0 (length xs)) ≡ xs
+  pub records_back : (xs : List X) (pre post : List ℕ) (at : ℕ) (d : X) → AllByRecursion Good xs → length pre ≡ at → map (λ k. dec (pre ++ (flat_map enc xs ++ post)) (at + w * k)) (range_with_len 0 (length xs)) ≡ xs
   records_back xs pre post at d g e = sym (fill_by_all (λ k. dec (pre ++ (flat_map enc xs ++ post)) (at + w * k)) xs (length xs) d refl (λ k l. sym (record_at xs pre post at k d g e l)))
 
 -- the kinds of record, where their numbers are short enough

@@ -1,6 +1,6 @@
 -- The check finds no fault exactly where the bytes are a file of some dimensions, entries and bodies.
 use Rattle.std.proofs.Common.{◌≡◌, ℕ, zero, suc, ◌+◌, ◌-◌, ◌*◌, ◌^◌, ◌<◌, ◌≤◌, Bool, true, false, not, ◌&&◌, eqb, ltb, leb, List, [], ◌∷◌, ◌++◌, length, get_or, take, drop, is_ok, Some, None, Err, Decides, Result, sym, refl, ap, ◌∙◌, subst, arith}
-use Rattle.std.specs.List.{flat_map, AllByRecursion as All}
+use Rattle.std.specs.List.{flat_map, AllByRecursion}
 use Rattle.std.proofs.lemmas.Bool.Decides.{nat_tests}
 use Rattle.std.proofs.lemmas.List.{append_assoc, length-append, length-take, length-drop, nil_from_length, take-append-drop, take_at, drop_at}
 use Rattle.std.proofs.lemmas.Bool.{eq-eqb, eqb-true, leb-true, le-leb, le-ltb, and_parts, and_from, false≢true}
@@ -69,7 +69,7 @@ flat_cut v at (e ∷ es) r h =
     let p = rest_ends v at e es r h in
     ap (λ zs. take (body_length v e) r ++ zs) (flat_cut v (at + body_length v e) es (drop (body_length v e) r) p.1) ∙ take-append-drop (body_length v e) r
 
-laid_cut : (v j at : ℕ) (es : List Entry) (r : List ℕ) → All (λ (e : Entry). e.start < 2 ^ 32) es → entries_fault v j at es ≡ None → ending v at es ≡ at + length r → Laid v at es (cut v es r)
+laid_cut : (v j at : ℕ) (es : List Entry) (r : List ℕ) → AllByRecursion (λ (e : Entry). e.start < 2 ^ 32) es → entries_fault v j at es ≡ None → ending v at es ≡ at + length r → Laid v at es (cut v es r)
 laid_cut v j at [] r s f h = tt
 laid_cut v j at (e ∷ es) r s f h =
     let p = rest_ends v at e es r h in
@@ -124,7 +124,7 @@ layout_from bs small h =
     let ends : ending v (bodies_at ds) es ≡ bodies_at ds + length r = d.2 ∙ omega arith in
     let el : length es ≡ t = length-map-range_with_len (λ j. entry_at bs (directory_at ds + 8 * j)) 0 t in
     let no_entry : Entry = record { start = 0; count = 0; kind = 0; spare = 0 } in
-    let short : All (λ (e : Entry). e.start < 2 ^ 32) es =
+    let short : AllByRecursion (λ (e : Entry). e.start < 2 ^ 32) es =
     All-from_get_or (λ (e : Entry). e.start < 2 ^ 32) es no_entry
     (λ j l. subst (λ (e : Entry). e.start < 2 ^ 32) (sym (get_or-map-range_with_len (λ j. entry_at bs (directory_at ds + 8 * j)) 0 t j j no_entry (omega arith) (omega arith))) (word_short bs small (directory_at ds + 8 * j))) in
     let mark : take 4 bs ≡ 1 ∷ length ds ∷ 0 ∷ 0 ∷ [] = take_4 bs 0 p.0 ∙ (λ i. p.1 i ∷ sym nl i ∷ p.2 i ∷ p.3 i ∷ []) in
@@ -155,13 +155,13 @@ from_laid v j at (e ∷ es) (b ∷ bodies) l =
     let q = ih.1 in
     (ap (λ b. or_else (refused_if (not b) (9, j ∷ [])) (entries_fault v (j + 1) (at + body_length v e) es)) (from_right v at e l.0) ∙ ih.0, omega arith)
 
-short_entries : (v at : ℕ) (es : List Entry) (bodies : List (List ℕ)) → v ≤ 16384 → Laid v at es bodies → All ShortEntry es
+short_entries : (v at : ℕ) (es : List Entry) (bodies : List (List ℕ)) → v ≤ 16384 → Laid v at es bodies → AllByRecursion ShortEntry es
 short_entries v at [] bodies s l = tt
 short_entries v at (e ∷ es) [] s l = absurd l
 short_entries v at (e ∷ es) (b ∷ bodies) s l =
     let c = l.0.counts in ((l.0.short, omega arith), short_entries v (at + body_length v e) es bodies s l.2)
 
-short_dims : (ds : List Dim) → All Fit ds → All ShortDim ds
+short_dims : (ds : List Dim) → AllByRecursion Fit ds → AllByRecursion ShortDim ds
 short_dims [] f = tt
 short_dims (d ∷ ds) f = let a = f.0.1 in let b = f.0.3 in ((omega arith, omega arith), short_dims ds f.1)
 
@@ -207,7 +207,7 @@ module _ (ds : List Dim) (es : List Entry) (bodies : List (List ℕ)) (limits : 
       (λ i. dims_from (append_assoc (1 ∷ length ds ∷ 0 ∷ 0 ∷ []) (flat_map dim_bytes ds) (flat_map entry_bytes es ++ flat bodies) i) 4 (length ds))
       ∙ records_back dim_bytes dim_at 8 ShortDim (λ x. refl) dim_back ds (1 ∷ length ds ∷ 0 ∷ 0 ∷ []) (flat_map entry_bytes es ++ flat bodies) 4 none_dim (short_dims ds limits.each) refl
 
-  short : All ShortEntry es
+  short : AllByRecursion ShortEntry es
   short = short_entries (volume ds) (bodies_at ds) es bodies limits.small_chunk laid
 
   entry_there : (j : ℕ) (d : Entry) → j < length es → entry_at file (directory_at ds + 8 * j) ≡ get_or es j d

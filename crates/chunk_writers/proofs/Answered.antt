@@ -1,7 +1,7 @@
 -- What a write answers and leaves. Assumes nothing.
 use Rattle.std.proofs.Common.{◌≡◌, ℕ, zero, suc, ◌+◌, ◌<◌, ◌≤◌, Bool, true, false, cond, List, [], ◌∷◌, ◌++◌, length, drop, Some, None, Ok, Err, Option, sym, refl, ap, ◌∙◌, arith}
 use Rattle.std.specs.List.Sorted.{IsPermutation}
-use Rattle.std.specs.List.{flat_map, AllByRecursion as All}
+use Rattle.std.specs.List.{flat_map, AllByRecursion}
 use Rattle.std.proofs.lemmas.List.{append_assoc, length-append}
 use Rattle.std.proofs.lemmas.Bool.Decides.{nat_tests}
 use Rattle.shapes.specs.declared.dims.Dim.{Dim}
@@ -71,7 +71,7 @@ put_file ds css b₀ b₁ b₂ b₃ e l p q r =
     ∙ ap (λ n. file_bytes ds css ++ drop n b₀) z
 
 -- rows in range, and their keys in order
-module _ (ds : List Dim) (fit : All Fit ds) (rows : List Row) (ks : List Key) (none : first_outside ds 0 rows ≡ None) (sorted : IsPermutation (all_keys ds rows) ks × Ordered ks) (room : ℕ) where
+module _ (ds : List Dim) (fit : AllByRecursion Fit ds) (rows : List Row) (ks : List Key) (none : first_outside ds 0 rows ≡ None) (sorted : IsPermutation (all_keys ds rows) ks × Ordered ks) (room : ℕ) where
   ranged : InRange ds rows
   ranged = in_range_from ds 0 rows none
 

@@ -1,6 +1,6 @@
 -- The keys of a chunk, and its cells. Assumes nothing.
 use Rattle.std.proofs.Common.{◌≡◌, ℕ, ◌+◌, ◌-◌, ◌/◌, ◌<◌, ◌≤◌, true, false, cond, ◌&&◌, eqb, ltb, ◌⊎◌, List, [], ◌∷◌, map, length, get_or, Some, None, sym, ap, ◌∙◌, subst, inl, inr, mod-lt, div-lt_iff_lt-mul, div-add-mod', arith}
-use Rattle.std.specs.List.{range_with_len, flat_map, between, AllByRecursion as All}
+use Rattle.std.specs.List.{range_with_len, flat_map, between, AllByRecursion}
 use Rattle.std.proofs.lemmas.List.Edits.{length-between, get_or-between}
 use Rattle.std.proofs.lemmas.List.{length-map, get_or-map}
 use Rattle.std.proofs.lemmas.Bool.{and_parts, and_from, ltb-true, eq-eqb, eqb-true, cases_lt}
@@ -27,14 +27,14 @@ chunk_below x d fit h =
     let whole = div-add-mod' d.size d.edge in
     (div-lt_iff_lt-mul {k = d.edge} {x = x} {y = chunks d} fit.2).1 (omega arith)
 
-chunks_below : (ds : List Dim) (xs : List ℕ) → All Fit ds → inside (sizes ds) xs ≡ true → Digits (counts ds) (chunk_of ds xs)
+chunks_below : (ds : List Dim) (xs : List ℕ) → AllByRecursion Fit ds → inside (sizes ds) xs ≡ true → Digits (counts ds) (chunk_of ds xs)
 chunks_below [] xs fit h = tt
 chunks_below (d ∷ ds) [] fit h = never h
 chunks_below (d ∷ ds) (x ∷ xs) fit h =
     let b = and_parts (ltb x d.size) (inside (sizes ds) xs) h in
     (chunk_below x d fit.0 (ltb-true x d.size b.0), chunks_below ds xs fit.1 b.1)
 
-locals_below : (ds : List Dim) (xs : List ℕ) → All Fit ds → inside (sizes ds) xs ≡ true → Digits (edges ds) (local_of ds xs)
+locals_below : (ds : List Dim) (xs : List ℕ) → AllByRecursion Fit ds → inside (sizes ds) xs ≡ true → Digits (edges ds) (local_of ds xs)
 locals_below [] xs fit h = tt
 locals_below (d ∷ ds) [] fit h = never h
 locals_below (d ∷ ds) (x ∷ xs) fit h =
@@ -42,7 +42,7 @@ locals_below (d ∷ ds) (x ∷ xs) fit h =
     (mod-lt x fit.0.2, locals_below ds xs fit.1 b.1)
 
 -- a row in range lies in a chunk of the array, at an offset of the chunk
-module _ (ds : List Dim) (fit : All Fit ds) (r : Row) (good : in_range ds r ≡ true) where
+module _ (ds : List Dim) (fit : AllByRecursion Fit ds) (r : Row) (good : in_range ds r ≡ true) where
   pub storage_below : storage ds r.at < total_chunks ds
   storage_below = number_below (counts ds) (chunk_of ds r.at) (chunks_below ds r.at fit (and_parts (inside (sizes ds) r.at) (is_reading r.reading) good).0)
 
@@ -58,7 +58,7 @@ cell_of_row ds k o r h =
     let b = and_parts (eqb (storage ds r.at) k) (eqb (offset ds r.at) o) a.1 in
     (eqb-true (storage ds r.at) k b.0, eqb-true (offset ds r.at) o b.1)
 
-module _ (ds : List Dim) (fit : All Fit ds) (rows : List Row) (ks : List Key) (K : Keyed ds rows ks) where
+module _ (ds : List Dim) (fit : AllByRecursion Fit ds) (rows : List Row) (ks : List Key) (K : Keyed ds rows ks) where
   -- where the keys of each key's own fields are
   pub key_chunk : (p : ℕ) (d : Key) → p < length ks → (get_or ks p d).chunk ≡ storage ds (row_at rows (get_or ks p d).row).at
   key_chunk p d l = ap (λ (k : Key). k.chunk) (K.each p d l).1

@@ -1,6 +1,6 @@
 -- The directory and the bodies, chunk by chunk. Assumes nothing.
 use Rattle.std.proofs.Common.{◌≡◌, ℕ, zero, suc, ◌+◌, ◌-◌, ◌*◌, ◌<◌, ◌≤◌, Bool, true, false, cond, ltb, ◌⊎◌, List, [], ◌∷◌, ◌++◌, map, length, get_or, drop, is_some, Option, sym, refl, ap, ◌∙◌, subst, inl, inr, arith}
-use Rattle.std.specs.List.{range_with_len, flat_map, between, AllByRecursion as All}
+use Rattle.std.specs.List.{range_with_len, flat_map, between, AllByRecursion}
 use Rattle.std.proofs.lemmas.List.FromFn.{length-map-range_with_len, get_or-map-range_with_len}
 use Rattle.std.proofs.lemmas.List.Edits.{get_or-between}
 use Rattle.std.proofs.lemmas.List.{length-append, length-map, drop_more, drop_all, get_or_default}
@@ -69,7 +69,7 @@ cut_ends ks j k e up A l w inside out = record {
     same : (p : ℕ) (d : Key) → p < length ks → (get_or ks p d).chunk ≡ (get_or ks p none_key).chunk
     same p d m = ap (λ (k : Key). k.chunk) (get_or_default ks p d none_key m)
 
-module _ (ds : List Dim) (fit : All Fit ds) (small : volume ds ≤ 16384) (rows : List Row) (ks : List Key) (K : Keyed ds rows ks) where
+module _ (ds : List Dim) (fit : AllByRecursion Fit ds) (small : volume ds ≤ 16384) (rows : List Row) (ks : List Key) (K : Keyed ds rows ks) where
   abbrev css : List (List (Option ℕ))
   css = in_chunks ds rows
 

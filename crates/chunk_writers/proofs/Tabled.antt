@@ -1,6 +1,6 @@
 -- The lemmas of files, at a table. Assumes nothing.
 use Rattle.std.proofs.Common.{◌≡◌, ℕ, ◌+◌, ◌-◌, ◌<◌, ◌≤◌, cond, List, [], ◌∷◌, ◌++◌, map, length, get_or, drop}
-use Rattle.std.specs.List.{range_with_len, flat_map, between, AllByRecursion as All}
+use Rattle.std.specs.List.{range_with_len, flat_map, between, AllByRecursion}
 use Rattle.shapes.specs.declared.dims.Dim.{Dim}
 use Rattle.shapes.specs.Arrays.{volume, total_chunks}
 use Rattle.shapes.specs.Limits.{Fit}
@@ -29,7 +29,7 @@ module _ (t : Table) (K : Sound t) where
   abbrev ks : List Key
   ks = t.keys.now
 
-  fit : All Fit ds
+  fit : AllByRecursion Fit ds
   fit = all_fit t.shape
 
   pub small_chunks : volume ds ≤ 16384

@@ -1,6 +1,6 @@
 -- What is written is read back. Assumes nothing.
 use Rattle.std.proofs.Common.{◌≡◌, ℕ, zero, suc, ◌+◌, ◌*◌, ◌^◌, ◌<◌, ◌≤◌, Bool, true, false, cond, not, eqb, ltb, leb, ◌≢◌, List, [], ◌∷◌, ◌++◌, map, length, get_or, is_some, Some, None, Ok, Option, sym, refl, ap, ◌∙◌, subst, inl, inr, zero-add, arith}
-use Rattle.std.specs.List.{range_with_len, flat_map, AllByRecursion as All}
+use Rattle.std.specs.List.{range_with_len, flat_map, AllByRecursion}
 use Rattle.std.proofs.lemmas.List.{append-nil, length-append, length-map, get_or-map}
 use Rattle.std.proofs.lemmas.List.FromFn.{fill_by_all, length-map-range_with_len, get_or-map-range_with_len}
 use Rattle.std.proofs.lemmas.List.Sums.{count_by-le-length}
@@ -27,7 +27,7 @@ Small None = Unit {0}
 Small (Some r) = r ≤ 16777215
 
 -- the pairs of small cells are short, and have no fault
-short_pairs : (x : ℕ) (cs : List (Option ℕ)) → x + length cs ≤ 16384 → All Small cs → All ShortPair (pairs_of x cs)
+short_pairs : (x : ℕ) (cs : List (Option ℕ)) → x + length cs ≤ 16384 → AllByRecursion Small cs → AllByRecursion ShortPair (pairs_of x cs)
 short_pairs x [] l s = tt
 short_pairs x (None ∷ cs) l s = short_pairs (x + 1) cs (omega arith) s.1
 short_pairs x (Some r ∷ cs) l s = let p = s.0 in ((omega arith, omega arith), short_pairs (x + 1) cs (omega arith) s.1)
@@ -35,7 +35,7 @@ short_pairs x (Some r ∷ cs) l s = let p = s.0 in ((omega arith, omega arith), 
 no_fault : (b : Bool) (f : Fault) → b ≡ true → fault_if (not b) f ≡ None
 no_fault b f e = ap (λ t. fault_if (not t) f) e
 
-sound_pairs : (v k low x : ℕ) (cs : List (Option ℕ)) → x + length cs ≡ v → low ≤ x → All Small cs → pairs_fault v k low (pairs_of x cs) ≡ None
+sound_pairs : (v k low x : ℕ) (cs : List (Option ℕ)) → x + length cs ≡ v → low ≤ x → AllByRecursion Small cs → pairs_fault v k low (pairs_of x cs) ≡ None
 sound_pairs v k low x [] e l s = refl
 sound_pairs v k low x (None ∷ cs) e l s = sound_pairs v k low (x + 1) cs (omega arith) (omega arith) s.1
 sound_pairs v k low x (Some r ∷ cs) e l s =
@@ -74,7 +74,7 @@ short_word : (c : Option ℕ) → Small c → cell_word c < 2 ^ 32
 short_word None s = omega arith
 short_word (Some r) s = omega arith
 
-short_words : (cs : List (Option ℕ)) → All Small cs → All ShortWord (map cell_word cs)
+short_words : (cs : List (Option ℕ)) → AllByRecursion Small cs → AllByRecursion ShortWord (map cell_word cs)
 short_words [] s = tt
 short_words (c ∷ cs) s = (short_word c s.0, short_words cs s.1)
 
@@ -82,7 +82,7 @@ word_cell_back : (c : Option ℕ) → Small c → word_cell (cell_word c) ≡ c
 word_cell_back None s = refl
 word_cell_back (Some r) s = let ne : r ≢ 4294967295 = omega arith in cond-false (eqb r 4294967295) None (Some r) (ne_eqb r 4294967295 ne)
 
-cells_back : (cs : List (Option ℕ)) → All Small cs → map word_cell (map cell_word cs) ≡ cs
+cells_back : (cs : List (Option ℕ)) → AllByRecursion Small cs → map word_cell (map cell_word cs) ≡ cs
 cells_back [] s = refl
 cells_back (c ∷ cs) s = λ i. word_cell_back c s.0 i ∷ cells_back cs s.1 i
 
@@ -90,19 +90,19 @@ fitting_word : (c : Option ℕ) → Small c → word_fits (cell_word c) ≡ true
 fitting_word None s = refl
 fitting_word (Some r) s = or_right (eqb r 4294967295) (is_reading r) (le-leb r 16777215 s)
 
-sound_words : (k : ℕ) (cs : List (Option ℕ)) → All Small cs → words_fault k (map cell_word cs) ≡ None
+sound_words : (k : ℕ) (cs : List (Option ℕ)) → AllByRecursion Small cs → words_fault k (map cell_word cs) ≡ None
 sound_words k [] s = refl
 sound_words k (c ∷ cs) s = ap (λ o. or_else o (words_fault (k + 1) (map cell_word cs))) (no_fault (word_fits (cell_word c)) (2, k) (fitting_word c s.0)) ∙ sound_words (k + 1) cs s.1
 
 -- records that stand alone are read back
 alone : {X : Type 0} (enc : X → List ℕ) (dec : List ℕ → ℕ → X) (w : ℕ) (Good : X → Type 0) (wide : (x : X) → length (enc x) ≡ w)
-    (back : (pre post : List ℕ) (x : X) → Good x → dec (pre ++ (enc x ++ post)) (length pre) ≡ x) (d : X) (xs : List X) (n : ℕ) → All Good xs → length xs ≡ n → map (λ k. dec (flat_map enc xs) (w * k)) (range_with_len 0 n) ≡ xs
+    (back : (pre post : List ℕ) (x : X) → Good x → dec (pre ++ (enc x ++ post)) (length pre) ≡ x) (d : X) (xs : List X) (n : ℕ) → AllByRecursion Good xs → length xs ≡ n → map (λ k. dec (flat_map enc xs) (w * k)) (range_with_len 0 n) ≡ xs
 alone enc dec w Good wide back d xs n good e =
     (λ i. map (λ k. dec (sym (append-nil (flat_map enc xs)) i) (sym (zero-add (w * k)) i)) (range_with_len 0 (sym e i)))
     ∙ records_back enc dec w Good wide back xs [] [] 0 d good refl
 
 -- a body of each kind
-module _ (v : ℕ) (cs : List (Option ℕ)) (long : length cs ≡ v) (few : v ≤ 16384) (small : All Small cs) where
+module _ (v : ℕ) (cs : List (Option ℕ)) (long : length cs ≡ v) (few : v ≤ 16384) (small : AllByRecursion Small cs) where
   pairs_there : pairs_in (flat_map pair_bytes (pairs_of 0 cs)) (filled cs) ≡ pairs_of 0 cs
   pairs_there = alone pair_bytes pair_at 6 ShortPair (λ x. refl) pair_back (record { offset = 0; reading = 0 }) (pairs_of 0 cs) (filled cs) (short_pairs 0 cs (omega arith) small) (length_pairs_of 0 cs)
 
@@ -148,9 +148,9 @@ module _ (v : ℕ) (cs : List (Option ℕ)) (long : length cs ≡ v) (few : v �
       go false = omega arith
 
 abbrev Whole : ℕ → List (Option ℕ) → Type 0
-Whole v cs = (length cs ≡ v) × All Small cs
+Whole v cs = (length cs ≡ v) × AllByRecursion Small cs
 
-laid_bodies : (v at : ℕ) (css : List (List (Option ℕ))) → v ≤ 16384 → All (Whole v) css → at + length (all_bodies v css) < 2 ^ 32 → Laid v at (entries_of v at css) (bodies_of v css)
+laid_bodies : (v at : ℕ) (css : List (List (Option ℕ))) → v ≤ 16384 → AllByRecursion (Whole v) css → at + length (all_bodies v css) < 2 ^ 32 → Laid v at (entries_of v at css) (bodies_of v css)
 laid_bodies v at [] few w l = tt
 laid_bodies v at (cs ∷ css) few w l =
     let a = length-append (body_bytes v cs) (all_bodies v css) in
@@ -174,7 +174,7 @@ module _ (ds : List Dim) (limits : Limits ds) (rows : List Row) (ranged : InRang
     | inr f ↦ subst Small (sym f.0) tt
   ]
 
-  all_map_counting : {X : Type 0} (P : X → Type 0) (f : ℕ → X) (a n : ℕ) → ((k : ℕ) → P (f k)) → All P (map f (range_with_len a n))
+  all_map_counting : {X : Type 0} (P : X → Type 0) (f : ℕ → X) (a n : ℕ) → ((k : ℕ) → P (f k)) → AllByRecursion P (map f (range_with_len a n))
   all_map_counting P f a zero h = tt
   all_map_counting P f a (suc n) h = (h a, all_map_counting P f (a + 1) n h)
 

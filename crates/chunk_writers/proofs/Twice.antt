@@ -1,6 +1,6 @@
 -- Two rows on one cell: their keys are neighbours once they are sorted. Assumes nothing.
 use Rattle.std.proofs.Common.{◌≡◌, ℕ, zero, suc, ◌+◌, ◌-◌, ◌<◌, ◌≤◌, min, Bool, true, false, cond, ◌&&◌, eqb, ◌≢◌, ◌⊎◌, List, [], ◌∷◌, ◌++◌, map, length, get_or, take, drop, is_some, Some, None, sum_by, sym, refl, ap, ◌∙◌, subst, inl, inr, arith}
-use Rattle.std.specs.List.{range_with_len, ContainsAt as Has, AllByRecursion as All}
+use Rattle.std.specs.List.{range_with_len, ContainsAt as Has, AllByRecursion}
 use Rattle.std.specs.List.Sorted.{IsPermutation}
 use Rattle.std.proofs.lemmas.List.FromFn.{length-map-range_with_len, get_or-map-range_with_len}
 use Rattle.std.proofs.ByRecursion.{All-from_get_or, All-get_or, has_get_or, all_shuffled, has_shuffled}
@@ -147,7 +147,7 @@ module _ (ds : List Dim) (rows : List Row) where
     | inr f ↦ ap is_some f.0
   ]
 
-  is_taken : (fit : All Fit ds) (h i : ℕ) → h < i → i < length rows → in_range ds (row_at rows h) ≡ true → SameCell h i → taken i ≡ true
+  is_taken : (fit : AllByRecursion Fit ds) (h i : ℕ) → h < i → i < length rows → in_range ds (row_at rows h) ≡ true → SameCell h i → taken i ≡ true
   is_taken fit h i l m good cell = elim (first_cases (on_cell ds (storage ds (row_at rows i).at) (offset ds (row_at rows i).at)) (take i rows)) [
     | inl f ↦ ap is_some f.3
     | inr f ↦
@@ -172,7 +172,7 @@ below_on a b c h k = grind arith
 row_upto : (a b : Key) → Below a b ⊎ (Together a b × (a.row ≤ b.row)) → Together a b → a.row ≤ b.row
 row_upto a b h t = grind arith
 
-module _ (ds : List Dim) (fit : All Fit ds) (rows : List Row) (ks : List Key) (ranged : InRange ds rows) (shuffled : IsPermutation (all_keys ds rows) ks) (ordered : Ordered ks) where
+module _ (ds : List Dim) (fit : AllByRecursion Fit ds) (rows : List Row) (ks : List Key) (ranged : InRange ds rows) (shuffled : IsPermutation (all_keys ds rows) ks) (ordered : Ordered ks) where
   pub length_keys : length ks ≡ length rows
   length_keys = length_permutation (all_keys ds rows) ks shuffled ∙ length-map-range_with_len (key_of ds rows) 0 (length rows)
 

@@ -1,7 +1,7 @@
 -- Where the next block is, seen from a group: at a group above it or at a child of one, and within the release of each group above it that still waits.
 use Rattle.std.proofs.Common.{◌≡◌, ℕ, zero, suc, ◌+◌, ◌-◌, ◌*◌, ◌/◌, ◌%◌, ◌<◌, ◌≤◌, Bool, true, false, cond, ◌||◌, ◌⊎◌, List, [], ◌∷◌, length, Some, None, Option, sym, refl, ap, ◌∙◌, subst, inl, inr, ⊎_elim, arith}
 use native.Mathlib.Nat.{div-eq_of_lt-le}
-use Rattle.std.specs.List.{ContainsAt as Has, AllByRecursion as All}
+use Rattle.std.specs.List.{ContainsAt as Has, AllByRecursion}
 use Rattle.std.proofs.lemmas.Bool.{and_parts, and_from, or_cases, or_left, or_right, true≢false, both_ways}
 use Rattle.shapes.specs.declared.dims.Dim.{Dim}
 use Rattle.shapes.specs.Arrays.{Group, total_chunks, root}
@@ -13,7 +13,7 @@ use Rattle.cubes.proofs.Trees.{lacking_not_root, ChildOf, level, laws, children_
 use Rattle.cubes.proofs.MachineLaws.{machine_laws}
 
 -- the first that passes a test is one of the list
-first_is : (p : Group → Bool) (Q : Group → Type 0) (hs : List Group) (y : Group) → All Q hs → first p hs ≡ Some y → Q y × (p y ≡ true)
+first_is : (p : Group → Bool) (Q : Group → Type 0) (hs : List Group) (y : Group) → AllByRecursion Q hs → first p hs ≡ Some y → Q y × (p y ≡ true)
 first_is p Q [] y a e = absurd (let z : ◌≡◌ {A = ℕ} 0 1 = cc in omega arith)
 first_is p Q (h ∷ hs) y a e = step (p h) refl e (first_is p Q hs y a.1)
   where

@@ -1,6 +1,6 @@
 -- Groups and their masks: each group of n dimensions has its mask, and with any choice of parents all of them are the groups of a scan.
 use Rattle.std.proofs.Common.{◌≡◌, ℕ, zero, suc, ◌+◌, ◌-◌, ◌*◌, ◌/◌, ◌%◌, ◌^◌, ◌<◌, ◌≤◌, true, false, List, [], ◌∷◌, length, get_or, set, sym, refl, ap, ◌∙◌, subst, ⊎_elim, arith}
-use Rattle.std.specs.List.{range_with_len, ContainsAt as Has, AllByRecursion as All}
+use Rattle.std.specs.List.{range_with_len, ContainsAt as Has, AllByRecursion}
 use Rattle.std.proofs.ByRecursion.{All-map, All-get_or, all-has, All-weaker}
 use Rattle.std.proofs.lemmas.List.{length-replicate, length-set}
 use Rattle.std.proofs.lemmas.Bool.{eq-eqb, ne_eqb, cases_eq, true≢false}
@@ -84,7 +84,7 @@ pub groups_once : (n : ℕ) → Distinct (groups n)
 groups_once n = distinct_map (group n) (λ m. m < 2 ^ n) (λ a b l m e. sym (mask-group n a l) ∙ (ap mask e ∙ mask-group n b m)) (range_with_len 0 (2 ^ n))
     (all_counting (λ m. m < 2 ^ n) 0 (2 ^ n) (λ u a b. omega arith)) (distinct_counting 0 (2 ^ n))
 
-pub groups_sized : (n : ℕ) → All (λ g. length g ≡ n) (groups n)
+pub groups_sized : (n : ℕ) → AllByRecursion (λ g. length g ≡ n) (groups n)
 groups_sized n = All-map (λ g. length g ≡ n) (group n) (range_with_len 0 (2 ^ n)) (all_always (λ m. length (group n m) ≡ n) (length-group n) (range_with_len 0 (2 ^ n)))
 
 -- a choice of parents at a group

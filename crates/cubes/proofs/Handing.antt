@@ -2,7 +2,7 @@
 use Rattle.std.proofs.Common.{◌≡◌, ℕ, zero, suc, ◌+◌, ◌-◌, ◌*◌, ◌/◌, ◌<◌, ◌≤◌, cond, List, [], ◌∷◌, ◌++◌, map, length, take, drop, sum, filter, sym, refl, ap, ◌∙◌, subst, le_trans, mul-le-mul_right, le-div_iff_mul-le, div-mul-le_self, add-one, arith}
 use mathlib.Core.Path.{fun_ext}
 use mathlib.Core.List.{map-map}
-use Rattle.std.specs.List.{range_with_len, flat_map, ContainsAt as Has, AllByRecursion as All}
+use Rattle.std.specs.List.{range_with_len, flat_map, ContainsAt as Has, AllByRecursion}
 use Rattle.std.proofs.ByRecursion.{All-weaker, all_kept_by, all_has_itself}
 use Rattle.std.proofs.lemmas.Bool.{true≢false}
 use Rattle.std.proofs.lemmas.List.{length-map, take-map, take-append-drop, take_all}
@@ -150,7 +150,7 @@ module _ (ds : List Dim) (place : ℕ → ℕ) (adds : Group → ℕ) (all : Lis
       whole : List Numbered
       whole = numbered_by (tree ds place adds all) (root (length ds)) (level (root (length ds))) (total_chunks ds)
 
-  of_release : (f : ℕ) (g : Group) (bs : List (List ℕ)) → Has all g → All (λ x. Has all x.of) (release ds place adds all f g bs)
+  of_release : (f : ℕ) (g : Group) (bs : List (List ℕ)) → Has all g → AllByRecursion (λ x. Has all x.of) (release ds place adds all f g bs)
   unfolding release
   of_release zero g bs l = tt
   of_release (suc f) g bs l = all_joined (λ x. Has all x.of)
@@ -160,16 +160,16 @@ module _ (ds : List Dim) (place : ℕ → ℕ) (adds : Group → ℕ) (all : Lis
         l,
         all_joined (λ x. Has all x.of) (λ h. cond (completes ds place adds h b) (release ds place adds all f h (region ds place adds h b)) [])
             (children adds all g) (All-weaker (λ h. Has all h)
-            (λ h. All (λ x. Has all x.of) (cond (completes ds place adds h b) (release ds place adds all f h (region ds place adds h b)) []))
+            (λ h. AllByRecursion (λ x. Has all x.of) (cond (completes ds place adds h b) (release ds place adds all f h (region ds place adds h b)) []))
             (λ h lh. all_cond (λ x. Has all x.of) (completes ds place adds h b) (release ds place adds all f h (region ds place adds h b))
             (of_release f h (region ds place adds h b) lh)) (children adds all g)
             (all_kept_by (child adds g) (λ h. Has all h) all (all_has_itself all))),
       )) bs)
 
   -- every block handed out is a group's
-  pub released_of_groups : (t : ℕ) → All (λ x. Has all x.of) (released_by ds place adds all t)
+  pub released_of_groups : (t : ℕ) → AllByRecursion (λ x. Has all x.of) (released_by ds place adds all t)
   released_of_groups t = all_joined (λ x. Has all x.of) (release_of ds place adds all) (range_with_len 0 t)
-      (all_always (λ s. All (λ x. Has all x.of) (release_of ds place adds all s))
+      (all_always (λ s. AllByRecursion (λ x. Has all x.of) (release_of ds place adds all s))
       (λ s. of_release (suc (length ds)) (root (length ds)) (scan_digits place (counts ds) s ∷ []) S.grouped.has_root) (range_with_len 0 t))
 
   blocks_distinct : (h : Group) → Has all h → Distinct (blocks_of ds place h)
@@ -186,7 +186,7 @@ module _ (ds : List Dim) (place : ℕ → ℕ) (adds : Group → ℕ) (all : Lis
   handed_once = distinct_from_groups (handing ds place adds all) (released_of_groups (total_chunks ds))
       (λ h l. subst Distinct (sym (handed_in_order h l)) (blocks_distinct h l))
     where
-      distinct_from_groups : (xs : List Block) → All (λ x. Has all x.of) xs → ((h : Group) → Has all h → Distinct (filter (of_group h) xs)) → Distinct xs
+      distinct_from_groups : (xs : List Block) → AllByRecursion (λ x. Has all x.of) xs → ((h : Group) → Has all h → Distinct (filter (of_group h) xs)) → Distinct xs
       distinct_from_groups [] v a = tt
       distinct_from_groups (x ∷ xs) v a = (
         all_from_kept (of_group x.of) (λ y. y ≡ x → ⊥)

@@ -1,7 +1,7 @@
 -- Lists: what holds of each element, lists without a repeated element, counted lists, lists of lists, and what a test keeps.
 use Rattle.std.proofs.Common.{◌≡◌, ℕ, zero, suc, ◌+◌, ◌-◌, ◌*◌, ◌/◌, ◌<◌, ◌≤◌, Bool, true, false, cond, eqb, ◌⊎◌, List, [], ◌∷◌, ◌++◌, map, length, get_or, filter, sym, refl, ap, ◌∙◌, inl, inr, ⊎_elim, append_assoc, add-zero, mul-le-mul_right, div-lt_iff_lt-mul, suc-add, zero-add, add-one, arith}
 use native.Mathlib.Nat.{div-eq_of_lt-le, lt-div-mul-add}
-use Rattle.std.specs.List.{range_with_len, flat_map, ContainsAt as Has, AllByRecursion as All}
+use Rattle.std.specs.List.{range_with_len, flat_map, ContainsAt as Has, AllByRecursion}
 use Rattle.std.proofs.lemmas.List.Elements.{filter-append}
 use Rattle.std.proofs.ByRecursion.{all-has, All-append, All-map, all_kept_by, has_append_right}
 use Rattle.std.proofs.lemmas.List.{map-append, append-nil}
@@ -9,52 +9,52 @@ use Rattle.std.proofs.lemmas.Bool.{eq-eqb, ne_eqb}
 use Rattle.std.proofs.lemmas.List.FromFn.{map-range_with_len_more}
 use Rattle.cubes.specs.Handing.{Distinct}
 
-pub all_front : {X : Type 0} (P : X → Type 0) (xs ys : List X) → All P (xs ++ ys) → All P xs
+pub all_front : {X : Type 0} (P : X → Type 0) (xs ys : List X) → AllByRecursion P (xs ++ ys) → AllByRecursion P xs
 all_front P [] ys a = tt
 all_front P (x ∷ xs) ys a = (a.0, all_front P xs ys a.1)
 
-pub all_back : {X : Type 0} (P : X → Type 0) (xs ys : List X) → All P (xs ++ ys) → All P ys
+pub all_back : {X : Type 0} (P : X → Type 0) (xs ys : List X) → AllByRecursion P (xs ++ ys) → AllByRecursion P ys
 all_back P [] ys a = a
 all_back P (x ∷ xs) ys a = all_back P xs ys a.1
 
-pub all_both : {X : Type 0} (P Q R : X → Type 0) (f : (x : X) → P x → Q x → R x) (xs : List X) → All P xs → All Q xs → All R xs
+pub all_both : {X : Type 0} (P Q R : X → Type 0) (f : (x : X) → P x → Q x → R x) (xs : List X) → AllByRecursion P xs → AllByRecursion Q xs → AllByRecursion R xs
 all_both P Q R f [] a b = tt
 all_both P Q R f (x ∷ xs) a b = (f x a.0 b.0, all_both P Q R f xs a.1 b.1)
 
-pub all_always : {X : Type 0} (P : X → Type 0) → ((x : X) → P x) → (xs : List X) → All P xs
+pub all_always : {X : Type 0} (P : X → Type 0) → ((x : X) → P x) → (xs : List X) → AllByRecursion P xs
 all_always P f [] = tt
 all_always P f (x ∷ xs) = (f x, all_always P f xs)
 
-pub all_unmap : {X Y : Type 0} (P : Y → Type 0) (f : X → Y) (xs : List X) → All P (map f xs) → All (λ x. P (f x)) xs
+pub all_unmap : {X Y : Type 0} (P : Y → Type 0) (f : X → Y) (xs : List X) → AllByRecursion P (map f xs) → AllByRecursion (λ x. P (f x)) xs
 all_unmap P f [] a = tt
 all_unmap P f (x ∷ xs) a = (a.0, all_unmap P f xs a.1)
 
-pub all_cond : {X : Type 0} (P : X → Type 0) (b : Bool) (xs : List X) → All P xs → All P (cond b xs [])
+pub all_cond : {X : Type 0} (P : X → Type 0) (b : Bool) (xs : List X) → AllByRecursion P xs → AllByRecursion P (cond b xs [])
 all_cond P true xs a = a
 all_cond P false xs a = tt
 
-pub all_joined : {X Y : Type 0} (P : Y → Type 0) (f : X → List Y) (xs : List X) → All (λ x. All P (f x)) xs → All P (flat_map f xs)
+pub all_joined : {X Y : Type 0} (P : Y → Type 0) (f : X → List Y) (xs : List X) → AllByRecursion (λ x. AllByRecursion P (f x)) xs → AllByRecursion P (flat_map f xs)
 all_joined P f [] a = tt
 all_joined P f (x ∷ xs) a = All-append P (f x) (flat_map f xs) a.0 (all_joined P f xs a.1)
 
-pub all_counting : (P : ℕ → Type 0) (a n : ℕ) → ((u : ℕ) → a ≤ u → u < a + n → P u) → All P (range_with_len a n)
+pub all_counting : (P : ℕ → Type 0) (a n : ℕ) → ((u : ℕ) → a ≤ u → u < a + n → P u) → AllByRecursion P (range_with_len a n)
 all_counting P a zero f = tt
 all_counting P a (suc n) f = (f a (omega arith) (omega arith), all_counting P (a + 1) n (λ u l m. f u (omega arith) (omega arith)))
 
-pub all_from_kept : {X : Type 0} (p : X → Bool) (P : X → Type 0) → ((x : X) → p x ≡ false → P x) → (xs : List X) → All P (filter p xs) → All P xs
+pub all_from_kept : {X : Type 0} (p : X → Bool) (P : X → Type 0) → ((x : X) → p x ≡ false → P x) → (xs : List X) → AllByRecursion P (filter p xs) → AllByRecursion P xs
 all_from_kept p P f [] a = tt
 all_from_kept p P f (x ∷ xs) a = step (p x) refl a (all_from_kept p P f xs)
   where
-    step : (b : Bool) → p x ≡ b → All P (cond b (x ∷ filter p xs) (filter p xs)) → (All P (filter p xs) → All P xs) → All P (x ∷ xs)
+    step : (b : Bool) → p x ≡ b → AllByRecursion P (cond b (x ∷ filter p xs) (filter p xs)) → (AllByRecursion P (filter p xs) → AllByRecursion P xs) → AllByRecursion P (x ∷ xs)
     step true e a' ih = (a'.0, ih a'.1)
     step false e a' ih = (f x e, ih a')
 
-pub distinct_front : {X : Type 0} (xs : List X) (x : X) (ys : List X) → Distinct (xs ++ (x ∷ ys)) → All (λ y. y ≡ x → ⊥) xs
+pub distinct_front : {X : Type 0} (xs : List X) (x : X) (ys : List X) → Distinct (xs ++ (x ∷ ys)) → AllByRecursion (λ y. y ≡ x → ⊥) xs
 distinct_front [] x ys a = tt
 distinct_front (y ∷ xs) x ys a =
     (λ e. all-has (λ z. z ≡ y → ⊥) (xs ++ (x ∷ ys)) x a.0 (has_append_right xs (x ∷ ys) x (0, omega arith, λ d. refl)) (sym e), distinct_front xs x ys a.1)
 
-pub distinct_back : {X : Type 0} (xs : List X) (x : X) (ys : List X) → Distinct (xs ++ (x ∷ ys)) → All (λ y. y ≡ x → ⊥) ys
+pub distinct_back : {X : Type 0} (xs : List X) (x : X) (ys : List X) → Distinct (xs ++ (x ∷ ys)) → AllByRecursion (λ y. y ≡ x → ⊥) ys
 distinct_back [] x ys a = a.0
 distinct_back (y ∷ xs) x ys a = distinct_back xs x ys a.1
 
@@ -66,11 +66,11 @@ pub distinct_kept : {X : Type 0} (p : X → Bool) (xs : List X) → Distinct xs 
 distinct_kept p [] a = tt
 distinct_kept p (x ∷ xs) a = step (p x) (distinct_kept p xs a.1) (all_kept_by p (λ y. y ≡ x → ⊥) xs a.0)
   where
-    step : (b : Bool) → Distinct (filter p xs) → All (λ y. y ≡ x → ⊥) (filter p xs) → Distinct (cond b (x ∷ filter p xs) (filter p xs))
+    step : (b : Bool) → Distinct (filter p xs) → AllByRecursion (λ y. y ≡ x → ⊥) (filter p xs) → Distinct (cond b (x ∷ filter p xs) (filter p xs))
     step true r f = (f, r)
     step false r f = r
 
-pub distinct_map : {X Y : Type 0} (f : X → Y) (P : X → Type 0) → ((x y : X) → P x → P y → f x ≡ f y → x ≡ y) → (xs : List X) → All P xs → Distinct xs
+pub distinct_map : {X Y : Type 0} (f : X → Y) (P : X → Type 0) → ((x y : X) → P x → P y → f x ≡ f y → x ≡ y) → (xs : List X) → AllByRecursion P xs → Distinct xs
     → Distinct (map f xs)
 distinct_map f P inj [] v a = tt
 distinct_map f P inj (x ∷ xs) v a = (
@@ -109,30 +109,30 @@ pub joined_append : {X Y : Type 0} (f : X → List Y) (xs ys : List X) → flat_
 joined_append f [] ys = refl
 joined_append f (x ∷ xs) ys = ap (λ zs. f x ++ zs) (joined_append f xs ys) ∙ sym (append_assoc (f x) (flat_map f xs) (flat_map f ys))
 
-pub joined_same : {X Y : Type 0} (f g : X → List Y) (xs : List X) → All (λ x. f x ≡ g x) xs → flat_map f xs ≡ flat_map g xs
+pub joined_same : {X Y : Type 0} (f g : X → List Y) (xs : List X) → AllByRecursion (λ x. f x ≡ g x) xs → flat_map f xs ≡ flat_map g xs
 joined_same f g [] a = refl
 joined_same f g (x ∷ xs) a = ap (λ ys. ys ++ flat_map f xs) a.0 ∙ ap (λ ys. g x ++ ys) (joined_same f g xs a.1)
 
-pub joined_like : {X Z W : Type 0} (F : X → List W) (B : Z → W) (H : X → List Z) (xs : List X) → All (λ x. F x ≡ map B (H x)) xs → flat_map F xs ≡ map B (flat_map H xs)
+pub joined_like : {X Z W : Type 0} (F : X → List W) (B : Z → W) (H : X → List Z) (xs : List X) → AllByRecursion (λ x. F x ≡ map B (H x)) xs → flat_map F xs ≡ map B (flat_map H xs)
 joined_like F B H [] a = refl
 joined_like F B H (x ∷ xs) a = ap (λ ys. ys ++ flat_map F xs) a.0
     ∙ (ap (λ ys. map B (H x) ++ ys) (joined_like F B H xs a.1) ∙ sym (map-append B (H x) (flat_map H xs)))
 
-pub joined_map_like : {X Y Z W : Type 0} (F : Y → List W) (f : X → Y) (B : Z → W) (H : X → List Z) (xs : List X) → All (λ x. F (f x) ≡ map B (H x)) xs
+pub joined_map_like : {X Y Z W : Type 0} (F : Y → List W) (f : X → Y) (B : Z → W) (H : X → List Z) (xs : List X) → AllByRecursion (λ x. F (f x) ≡ map B (H x)) xs
     → flat_map F (map f xs) ≡ map B (flat_map H xs)
 joined_map_like F f B H [] a = refl
 joined_map_like F f B H (x ∷ xs) a = ap (λ ys. ys ++ flat_map F (map f xs)) a.0
     ∙ (ap (λ ys. map B (H x) ++ ys) (joined_map_like F f B H xs a.1) ∙ sym (map-append B (H x) (flat_map H xs)))
 
-pub kept_none : {X : Type 0} (p : X → Bool) (xs : List X) → All (λ x. p x ≡ false) xs → filter p xs ≡ []
+pub kept_none : {X : Type 0} (p : X → Bool) (xs : List X) → AllByRecursion (λ x. p x ≡ false) xs → filter p xs ≡ []
 kept_none p [] a = refl
 kept_none p (x ∷ xs) a = rw a.0 (kept_none p xs a.1)
 
-pub kept_all : {X : Type 0} (p : X → Bool) (xs : List X) → All (λ x. p x ≡ true) xs → filter p xs ≡ xs
+pub kept_all : {X : Type 0} (p : X → Bool) (xs : List X) → AllByRecursion (λ x. p x ≡ true) xs → filter p xs ≡ xs
 kept_all p [] a = refl
 kept_all p (x ∷ xs) a = rw a.0 (ap (λ ys. x ∷ ys) (kept_all p xs a.1))
 
-pub kept_like : {X : Type 0} (p q : X → Bool) (xs : List X) → All (λ x. p x ≡ q x) xs → filter p xs ≡ filter q xs
+pub kept_like : {X : Type 0} (p q : X → Bool) (xs : List X) → AllByRecursion (λ x. p x ≡ q x) xs → filter p xs ≡ filter q xs
 kept_like p q [] a = refl
 kept_like p q (x ∷ xs) a = rw (a.0, kept_like p q xs a.1)
 

@@ -1,7 +1,7 @@
 -- The machine by counts hands out what the release by numbers does, for any tree of groups.
 use Rattle.std.proofs.Common.{◌≡◌, ℕ, zero, suc, ◌+◌, ◌*◌, ◌/◌, ◌%◌, ◌<◌, ◌≤◌, Bool, true, false, cond, eqb, ◌≢◌, ◌⊎◌, List, [], ◌∷◌, ◌++◌, Some, None, Option, sym, refl, ap, ◌∙◌, subst, inl, inr, ⊎_elim, append_assoc, mod-lt, mod-eq_of_lt, div-add-mod', arith}
 use native.Mathlib.Nat.{div-eq_of_lt-le, div-eq_of_eq-mul_left, suc-mod, mod_self}
-use Rattle.std.specs.List.{range_with_len, flat_map, ContainsAt as Has, AllByRecursion as All}
+use Rattle.std.specs.List.{range_with_len, flat_map, ContainsAt as Has, AllByRecursion}
 use Rattle.std.proofs.ByRecursion.{all-has, All-append, All-weaker}
 use Rattle.std.proofs.lemmas.Bool.{lt-ltb, le-ltb, eqb-true, eqb-false, cases_Bool, cases_lt, true≢false}
 use Rattle.std.proofs.lemmas.List.{append-nil}
@@ -38,11 +38,11 @@ one_more_same d g = rw (same_group_refl g)
 pub one_more_other : (d : Table) (g h : Group) → (h ≡ g → ⊥) → one_more d g h ≡ d h
 one_more_other d g h n = rw (same_group_ne h g n)
 
-pub first_none : (p : Group → Bool) (hs : List Group) → All (λ h. p h ≡ false) hs → first p hs ≡ None
+pub first_none : (p : Group → Bool) (hs : List Group) → AllByRecursion (λ h. p h ≡ false) hs → first p hs ≡ None
 first_none p [] a = refl
 first_none p (h ∷ hs) a = rw a.0 (first_none p hs a.1)
 
-pub first_some : (p : Group → Bool) (gs : List Group) (h : Group) (hs : List Group) → All (λ g. p g ≡ false) gs → p h ≡ true → first p (gs ++ (h ∷ hs)) ≡ Some h
+pub first_some : (p : Group → Bool) (gs : List Group) (h : Group) (hs : List Group) → AllByRecursion (λ g. p g ≡ false) gs → p h ≡ true → first p (gs ++ (h ∷ hs)) ≡ Some h
 first_some p [] h hs a e = rw e
 first_some p (g ∷ gs) h hs a e = rw a.0 (first_some p gs h hs a.1 e)
 
@@ -74,7 +74,7 @@ release_numbers S (suc levels) g ss = flat_map (λ a. record { of = g; number = 
 pub record TreeLaws (S : Tree) (top : Group) (Child : Group → Type 0) (level : Group → ℕ) : Type 0 where
   pub root_is : S.is_root top ≡ true
   pub child_not_root : (h : Group) → Child h → S.is_root h ≡ false
-  pub children_are : (g : Group) → All (λ h. Child h × (S.parent_of h ≡ g)) (S.children_of g)
+  pub children_are : (g : Group) → AllByRecursion (λ h. Child h × (S.parent_of h ≡ g)) (S.children_of g)
   pub children_have : (h : Group) → Child h → Has (S.children_of (S.parent_of h)) h
   pub children_once : (g : Group) → Distinct (S.children_of g)
   pub level_up : (h : Group) → Child h → level (S.parent_of h) ≡ suc (level h)
@@ -139,7 +139,7 @@ pub record ChildrenDone (S : Tree) (Child : Group → Type 0) (n t : ℕ) (g : G
   pub table : Table
   pub runs : Runs S Child n t (next_after S n t d g) d xs (next_after S n t table g) table
   pub count : table g ≡ suc a
-  pub are_children : All (λ h. table h ≡ due_from S (suc a) h) (S.children_of g)
+  pub are_children : AllByRecursion (λ h. table h ≡ due_from S (suc a) h) (S.children_of g)
   pub frame : (z : Group) → ((j : ℕ) → Under S Child (suc j) g z → ⊥) → table z ≡ d z
   pub deeper : SettledDeeper S Child table g
 
@@ -211,17 +211,17 @@ module _ (S : Tree) (top : Group) (Child : Group → Type 0) (level : Group → 
       due_below_from d h u e = ap (λ m. (m / S.period h) * S.share h) (ap d u ∙ e)
 
       child_run : (gone todo : List Group) (x : Group) → S.children_of g ≡ gone ++ (x ∷ todo) → (d : Table) → d g ≡ suc a
-          → All (λ h. d h ≡ due_from S (suc a) h) gone → d x ≡ due_from S a x → Settled S Child d x
+          → AllByRecursion (λ h. d h ≡ due_from S (suc a) h) gone → d x ≡ due_from S a x → Settled S Child d x
           → ChildDone S Child (level top) t g a x d (child_part (release_numbers S f) S a x)
       child_run gone todo x eq d dg past now settled = ⊎_elim yes' no' (cases_Bool (eqb (suc a % S.period x) 0))
         where
-          are_children : All (λ h. Child h × (S.parent_of h ≡ g)) (gone ++ (x ∷ todo))
-          are_children = subst (All (λ h. Child h × (S.parent_of h ≡ g))) eq (L.children_are g)
+          are_children : AllByRecursion (λ h. Child h × (S.parent_of h ≡ g)) (gone ++ (x ∷ todo))
+          are_children = subst (AllByRecursion (λ h. Child h × (S.parent_of h ≡ g))) eq (L.children_are g)
 
           is_child : Child x × (S.parent_of x ≡ g)
           is_child = (all_back (λ h. Child h × (S.parent_of h ≡ g)) gone (x ∷ todo) are_children).0
 
-          not_waiting_past : All (λ h. waits S t d h ≡ false) gone
+          not_waiting_past : AllByRecursion (λ h. waits S t d h ≡ false) gone
           not_waiting_past = all_both (λ h. Child h × (S.parent_of h ≡ g)) (λ h. d h ≡ due_from S (suc a) h) (λ h. waits S t d h ≡ false)
               (λ h k e. not_waiting d h k.0 (e ∙ sym (due_below_from d h k.1 dg))) gone
               (all_front (λ h. Child h × (S.parent_of h ≡ g)) gone (x ∷ todo) are_children) past
@@ -278,8 +278,8 @@ module _ (S : Tree) (top : Group) (Child : Group → Type 0) (level : Group → 
             settled = settled;
           }
 
-      children_run : (todo gone : List Group) → S.children_of g ≡ gone ++ todo → (d : Table) → d g ≡ suc a → All (λ h. d h ≡ due_from S (suc a) h) gone
-          → All (λ h. d h ≡ due_from S a h) todo → SettledDeeper S Child d g
+      children_run : (todo gone : List Group) → S.children_of g ≡ gone ++ todo → (d : Table) → d g ≡ suc a → AllByRecursion (λ h. d h ≡ due_from S (suc a) h) gone
+          → AllByRecursion (λ h. d h ≡ due_from S a h) todo → SettledDeeper S Child d g
           → ChildrenDone S Child (level top) t g a d (flat_map (child_part (release_numbers S f) S a) todo)
       children_run [] gone eq d dg past next deeper =
           record { table = d; runs = (refl, refl); count = dg; are_children = rw (eq, append-nil gone) past; frame = λ z n. refl; deeper = deeper }
@@ -295,8 +295,8 @@ module _ (S : Tree) (top : Group) (Child : Group → Type 0) (level : Group → 
             deeper = rest.deeper;
           }
         where
-          are_children : All (λ h. Child h × (S.parent_of h ≡ g)) (gone ++ (x ∷ todo))
-          are_children = subst (All (λ h. Child h × (S.parent_of h ≡ g))) eq (L.children_are g)
+          are_children : AllByRecursion (λ h. Child h × (S.parent_of h ≡ g)) (gone ++ (x ∷ todo))
+          are_children = subst (AllByRecursion (λ h. Child h × (S.parent_of h ≡ g))) eq (L.children_are g)
 
           is_child : Child x × (S.parent_of x ≡ g)
           is_child = (all_back (λ h. Child h × (S.parent_of h ≡ g)) gone (x ∷ todo) are_children).0
@@ -315,14 +315,14 @@ module _ (S : Tree) (top : Group) (Child : Group → Type 0) (level : Group → 
           above : one.table g ≡ suc a
           above = one.frame g (λ j u. omega (arith, under_level j x g u, L.level_up x is_child.0, ap level is_child.1)) ∙ dg
 
-          past' : All (λ h. one.table h ≡ due_from S (suc a) h) (gone ++ (x ∷ []))
+          past' : AllByRecursion (λ h. one.table h ≡ due_from S (suc a) h) (gone ++ (x ∷ []))
           past' = All-append (λ h. one.table h ≡ due_from S (suc a) h) gone (x ∷ [])
               (all_both (λ h. (Child h × (S.parent_of h ≡ g)) × (h ≡ x → ⊥)) (λ h. d h ≡ due_from S (suc a) h) (λ h. one.table h ≡ due_from S (suc a) h)
               (λ h k e. beside h h 0 k.0 k.1 refl ∙ e) gone
               (all_both (λ h. Child h × (S.parent_of h ≡ g)) (λ h. h ≡ x → ⊥) (λ h. (Child h × (S.parent_of h ≡ g)) × (h ≡ x → ⊥)) (λ h k n. (k, n)) gone
               (all_front (λ h. Child h × (S.parent_of h ≡ g)) gone (x ∷ todo) are_children) (distinct_front gone x todo apart)) past) (one.count, tt)
 
-          next' : All (λ h. one.table h ≡ due_from S a h) todo
+          next' : AllByRecursion (λ h. one.table h ≡ due_from S a h) todo
           next' = all_both (λ h. (Child h × (S.parent_of h ≡ g)) × (h ≡ x → ⊥)) (λ h. d h ≡ due_from S a h) (λ h. one.table h ≡ due_from S a h)
               (λ h k e. beside h h 0 k.0 k.1 refl ∙ e) todo
               (all_both (λ h. Child h × (S.parent_of h ≡ g)) (λ h. h ≡ x → ⊥) (λ h. (Child h × (S.parent_of h ≡ g)) × (h ≡ x → ⊥)) (λ h k n. (k, n)) todo
@@ -375,7 +375,7 @@ module _ (S : Tree) (top : Group) (Child : Group → Type 0) (level : Group → 
             settled = settled';
           }
             where
-              not_waiting_children : All (λ h. waits S t are_children.table h ≡ false) (S.children_of g)
+              not_waiting_children : AllByRecursion (λ h. waits S t are_children.table h ≡ false) (S.children_of g)
               not_waiting_children = all_both (λ h. Child h × (S.parent_of h ≡ g)) (λ h. are_children.table h ≡ due_from S (suc a) h)
                   (λ h. waits S t are_children.table h ≡ false)
                   (λ h k e. not_waiting are_children.table h k.0 (e ∙ sym (due_below_from are_children.table h k.1 are_children.count)))

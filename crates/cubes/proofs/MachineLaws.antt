@@ -1,6 +1,6 @@
 -- The machine by counts hands out the handing order.
 use Rattle.std.proofs.Common.{◌≡◌, ℕ, zero, suc, ◌*◌, ◌/◌, ◌%◌, ◌<◌, ◌≤◌, Bool, true, cond, eqb, ltb, List, [], ◌∷◌, ◌++◌, map, length, get_or, take, Some, None, Option, sym, refl, ap, ◌∙◌, subst, ⊎_elim, append_assoc, le_trans, arith}
-use Rattle.std.specs.List.{range_with_len, ContainsAt as Has, AllByRecursion as All}
+use Rattle.std.specs.List.{range_with_len, ContainsAt as Has, AllByRecursion}
 use Rattle.std.proofs.ByRecursion.{All-weaker, all_kept_by}
 use Rattle.std.proofs.lemmas.List.{map-append, length-set, length-map, take_at, get_or_at, length-append}
 use Rattle.std.proofs.lemmas.List.FromFn.{length-map-range_with_len}
@@ -82,9 +82,9 @@ module _ (ds : List Dim) (place : ℕ → ℕ) (adds : Group → ℕ) (all : Lis
 
       lg : Has all g
       lg = subst (Has all) of_is (all_back (λ y. Has all y.of) xs (x ∷ rest)
-          (subst (All (λ y. Has all y.of)) s.whole
+          (subst (AllByRecursion (λ y. Has all y.of)) s.whole
           (all_unmap (λ y. Has all y.of) (numbered_block ds place) (numbered_by (tree ds place adds all) (root (length ds)) (level (root (length ds))) t)
-          (subst (All (λ y. Has all y.of)) (released_is ds place adds all S t l) (released_of_groups ds place adds all S t))))).0
+          (subst (AllByRecursion (λ y. Has all y.of)) (released_is ds place adds all S t l) (released_of_groups ds place adds all S t))))).0
 
   state_of_completing : (t : ℕ) (xs rest : List Numbered) (g : Group) (d : Table) → StateOf t xs rest (Some g) d → (h : Group) → ChildOf adds all h → parent adds h
       ≡ g → waits (tree ds place adds all) t (one_more d g) h ≡ completes ds place adds h (scan_digits place (radix g (counts ds)) (d g))
@@ -109,7 +109,7 @@ module _ (ds : List Dim) (place : ℕ → ℕ) (adds : Group → ℕ) (all : Lis
       ≡ next_step (tree ds place adds all) t d (next_from (tree ds place adds all) t (suc m) d (parent adds h)) h) (level_root (length ds))
       (next_after_step (tree ds place adds all) (root (length ds)) (ChildOf adds all) level (laws ds place adds all S) t d j h u)
 
-  first_like : (p q : Group → Bool) (hs : List Group) → All (λ h. p h ≡ q h) hs → first p hs ≡ first q hs
+  first_like : (p q : Group → Bool) (hs : List Group) → AllByRecursion (λ h. p h ≡ q h) hs → first p hs ≡ first q hs
   first_like p q [] a = refl
   first_like p q (h ∷ hs) a = ap (λ b. cond b (Some h) (first p hs)) a.0 ∙ ap (λ o. cond (q h) (Some h) o) (first_like p q hs a.1)
 

@@ -1,6 +1,6 @@
 -- Blocks by scan number, and by mask and block number: no two blocks that are handed out share one.
 use Rattle.std.proofs.Common.{◌≡◌, ℕ, suc, ◌<◌, ◌≤◌, List, map, length, sym, ap, ◌∙◌, subst, ap₂, arith}
-use Rattle.std.specs.List.{ContainsAt as Has, AllByRecursion as All}
+use Rattle.std.specs.List.{ContainsAt as Has, AllByRecursion}
 use Rattle.std.proofs.ByRecursion.{All-map, All-weaker}
 use Rattle.std.proofs.lemmas.List.{length-map}
 use Rattle.shapes.specs.declared.dims.Dim.{Dim}
@@ -56,13 +56,13 @@ scan_numbers ds place edged order g lg = (
     separate i j mi mj q = order.distinct i j (rw long at mi) (rw long at mj) q
 
 module _ (ds : List Dim) (place : ℕ → ℕ) (adds : Group → ℕ) (all : List Group) (S : Scan ds place adds all) where
-  pub released_within : (t : ℕ) → t ≤ total_chunks ds → All (λ b. Has all b.of × Below (radix b.of (counts ds)) b.at) (released_by ds place adds all t)
-  released_within t l = subst (All (λ b. Has all b.of × Below (radix b.of (counts ds)) b.at)) (sym (released_is ds place adds all S t l))
+  pub released_within : (t : ℕ) → t ≤ total_chunks ds → AllByRecursion (λ b. Has all b.of × Below (radix b.of (counts ds)) b.at) (released_by ds place adds all t)
+  released_within t l = subst (AllByRecursion (λ b. Has all b.of × Below (radix b.of (counts ds)) b.at)) (sym (released_is ds place adds all S t l))
       (All-map (λ b. Has all b.of × Below (radix b.of (counts ds)) b.at) (numbered_block ds place) numbers
       (All-weaker (λ x. Has all x.of) (λ x. Has all x.of × Below (radix x.of (counts ds)) (scan_digits place (radix x.of (counts ds)) x.number))
       (λ x k. (k, block_within ds place S.edged S.order x.of (sized ds place adds all S x.of k) x.number)) numbers
       (all_unmap (λ b. Has all b.of) (numbered_block ds place) numbers
-      (subst (All (λ b. Has all b.of)) (released_is ds place adds all S t l) (released_of_groups ds place adds all S t)))))
+      (subst (AllByRecursion (λ b. Has all b.of)) (released_is ds place adds all S t l) (released_of_groups ds place adds all S t)))))
     where
       numbers : List Numbered
       numbers = numbered_by (tree ds place adds all) (root (length ds)) (level (root (length ds))) t
@@ -86,7 +86,7 @@ module _ (ds : List Dim) (place : ℕ → ℕ) (adds : Group → ℕ) (all : Lis
       (released_within (total_chunks ds) (omega arith)) (handed_once ds place adds all S)
 
   -- the block number counts over the kept dimensions alone
-  pub numbered_over_kept : All (λ b. number (radix b.of (counts ds)) b.at ≡ number (only b.of (counts ds)) (only b.of b.at))
+  pub numbered_over_kept : AllByRecursion (λ b. number (radix b.of (counts ds)) b.at ≡ number (only b.of (counts ds)) (only b.of b.at))
       (handing ds place adds all)
   numbered_over_kept = All-weaker (λ b. Has all b.of × Below (radix b.of (counts ds)) b.at)
       (λ b. number (radix b.of (counts ds)) b.at ≡ number (only b.of (counts ds)) (only b.of b.at))

@@ -1,6 +1,6 @@
 -- When a block is handed out, all chunks beneath it have been passed.
 use Rattle.std.proofs.Common.{◌≡◌, ℕ, zero, suc, ◌*◌, ◌/◌, ◌<◌, ◌≤◌, Bool, true, false, cond, List, [], ◌∷◌, length, get_or, filter, sym, refl, ap, ◌∙◌, subst, ap₂, ⊎_elim, le_trans, le-div_iff_mul-le, div-mul-le_self, arith}
-use Rattle.std.specs.List.{range_with_len, ContainsAt as Has, AllByRecursion as All}
+use Rattle.std.specs.List.{range_with_len, ContainsAt as Has, AllByRecursion}
 use Rattle.std.proofs.lemmas.Nat.{div_below}
 use Rattle.std.proofs.ByRecursion.{All-map}
 use Rattle.std.proofs.lemmas.List.{length-map, length-set, get_or-set_other}
@@ -36,14 +36,14 @@ quotient_less s d m q r pm pr same less = ⊎_elim (λ l. l) (λ l. absurd (omeg
     grow l = (le-div_iff_mul-le pm).1 (le_trans (div-mul-le_self d m) l)
 
 -- what holds of each group's blocks holds of all
-all_by_group : (P : Numbered → Type 0) (xs : List Numbered) → ((h : Group) → All P (filter (is_of h) xs)) → All P xs
+all_by_group : (P : Numbered → Type 0) (xs : List Numbered) → ((h : Group) → AllByRecursion P (filter (is_of h) xs)) → AllByRecursion P xs
 all_by_group P [] a = tt
 all_by_group P (x ∷ xs) a = (
-  (subst (λ b. All P (cond b (x ∷ filter (is_of x.of) xs) (filter (is_of x.of) xs))) (same_group_refl x.of) (a x.of)).0,
+  (subst (λ b. AllByRecursion P (cond b (x ∷ filter (is_of x.of) xs) (filter (is_of x.of) xs))) (same_group_refl x.of) (a x.of)).0,
   all_by_group P xs (λ h. rest (is_of h x) (filter (is_of h) xs) (a h)),
 )
   where
-    rest : (b : Bool) (ys : List Numbered) → All P (cond b (x ∷ ys) ys) → All P ys
+    rest : (b : Bool) (ys : List Numbered) → AllByRecursion P (cond b (x ∷ ys) ys) → AllByRecursion P ys
     rest true ys v = v.1
     rest false ys v = v
 
@@ -132,14 +132,14 @@ module _ (ds : List Dim) (place : ℕ → ℕ) (adds : Group → ℕ) (all : Lis
 
   -- the chunks beneath a block that the first t chunks release are among them
   pub chunks_passed : (t : ℕ) → t ≤ total_chunks ds
-      → All (λ b. (c : List ℕ) → Below (counts ds) c → agrees b.of b.at c ≡ true → scan_number place (counts ds) c < t) (released_by ds place adds all t)
+      → AllByRecursion (λ b. (c : List ℕ) → Below (counts ds) c → agrees b.of b.at c ≡ true → scan_number place (counts ds) c < t) (released_by ds place adds all t)
   chunks_passed t l =
       let (d, s) = state_all (tree ds place adds all) (root (length ds)) (ChildOf adds all) level (laws ds place adds all S) t in
       let (e, dt, settled) = state_none (tree ds place adds all) (root (length ds)) (ChildOf adds all) level (laws ds place adds all S) t _ _ d s in
-      subst (All Passed) (sym (released_is ds place adds all S t l)) (All-map Passed (numbered_block ds place) numbers
+      subst (AllByRecursion Passed) (sym (released_is ds place adds all S t l)) (All-map Passed (numbered_block ds place) numbers
       (all_both (λ x. Has all x.of) (λ x. x.number < d x.of) (λ x. Passed (numbered_block ds place x))
       (λ x k m. passed_beneath t l d dt settled x k m) numbers has
-      (all_by_group (λ x. x.number < d x.of) numbers (λ h. subst (All (λ x. x.number < d x.of)) (sym (s.counts h))
+      (all_by_group (λ x. x.number < d x.of) numbers (λ h. subst (AllByRecursion (λ x. x.number < d x.of)) (sym (s.counts h))
       (All-map (λ x. x.number < d x.of) (numbered h) (range_with_len 0 (d h)) (all_counting (λ u. u < d h) 0 (d h) (λ u a b. omega arith)))))))
     where
       Passed : Block → Type 0
@@ -148,6 +148,6 @@ module _ (ds : List Dim) (place : ℕ → ℕ) (adds : Group → ℕ) (all : Lis
       numbers : List Numbered
       numbers = numbered_by (tree ds place adds all) (root (length ds)) (level (root (length ds))) t
 
-      has : All (λ x. Has all x.of) numbers
+      has : AllByRecursion (λ x. Has all x.of) numbers
       has = all_unmap (λ b. Has all b.of) (numbered_block ds place) numbers
-          (subst (All (λ b. Has all b.of)) (released_is ds place adds all S t l) (released_of_groups ds place adds all S t))
+          (subst (AllByRecursion (λ b. Has all b.of)) (released_is ds place adds all S t l) (released_of_groups ds place adds all S t))

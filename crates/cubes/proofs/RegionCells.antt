@@ -1,6 +1,6 @@
 -- A region has the cells that the plan counts for it.
 use Rattle.std.proofs.Common.{◌≡◌, ℕ, suc, ◌+◌, ◌-◌, ◌*◌, ◌/◌, ◌^◌, ◌<◌, Bool, true, false, cond, ltb, List, [], ◌∷◌, map, length, get_or, sum, sym, refl, ap, ◌∙◌, ap₂, mul-pos, one-mul, zero-add, mul-one, add-one, arith}
-use Rattle.std.specs.List.{range_with_len, ContainsAt as Has, AllByRecursion as All}
+use Rattle.std.specs.List.{range_with_len, ContainsAt as Has, AllByRecursion}
 use Rattle.std.proofs.ByRecursion.{All-map}
 use Rattle.std.proofs.lemmas.List.FromFn.{length-map-range_with_len}
 use Rattle.std.proofs.lemmas.List.{get_or-map, length-map}
@@ -109,7 +109,7 @@ module _ (ds : List Dim) (place : ℕ → ℕ) (adds : Group → ℕ) (all : Lis
   region_blocks_cells divided = ap (λ m. m * product (radix h (edges ds))) region_blocks_are
       ∙ region_cells ds place S.order divided h (adds h) lh (inside ds place adds all S h k) (lacks_keeps h (adds h) k.1)
 
-  pub region_has_cells : Divided ds → All (λ b. (length (region ds place adds h b) ≡ region_blocks ds place adds h)
+  pub region_has_cells : Divided ds → AllByRecursion (λ b. (length (region ds place adds h b) ≡ region_blocks ds place adds h)
       × (length (region ds place adds h b) * product (radix h (edges ds)) ≡ cells ds place h (adds h))) (blocks ds place (parent adds h))
   region_has_cells divided =
       All-map (λ b. (length (region ds place adds h b) ≡ region_blocks ds place adds h)
@@ -124,7 +124,7 @@ module _ (ds : List Dim) (place : ℕ → ℕ) (adds : Group → ℕ) (all : Lis
           ≡ region_blocks ds place adds h
       same s l = region_long s l ∙ sym region_blocks_are
 
-map_same : {X : Type 0} (f g : X → ℕ) (xs : List X) → All (λ x. f x ≡ g x) xs → map f xs ≡ map g xs
+map_same : {X : Type 0} (f g : X → ℕ) (xs : List X) → AllByRecursion (λ x. f x ≡ g x) xs → map f xs ≡ map g xs
 map_same f g [] a = refl
 map_same f g (x ∷ xs) a = ap₂ ◌∷◌ a.0 (map_same f g xs a.1)
 

@@ -1,6 +1,6 @@
 -- Sums over groups: how many blocks a list has, by group.
 use Rattle.std.proofs.Common.{◌≡◌, ℕ, zero, suc, ◌+◌, ◌*◌, Bool, true, false, cond, ◌⊎◌, List, [], ◌∷◌, ◌++◌, map, length, sum_by, sum, filter, sym, refl, ap, ◌∙◌, inl, inr, ⊎_elim, arith}
-use Rattle.std.specs.List.{ContainsAt as Has, AllByRecursion as All}
+use Rattle.std.specs.List.{ContainsAt as Has, AllByRecursion}
 use Rattle.std.proofs.ByRecursion.{All-append, All-weaker, All-map, all-has}
 use Rattle.std.proofs.lemmas.List.Sums.{sum_by-cons, sum-map}
 use Rattle.shapes.specs.Arrays.{Group, product, radix}
@@ -38,7 +38,7 @@ unfolding sum_over
 sum_over_none [] = refl
 sum_over_none (x ∷ xs) = omega (arith, sum_over_none xs)
 
-pub sum_over_like : {X : Type 0} (f g : X → ℕ) (xs : List X) → All (λ x. f x ≡ g x) xs → sum_over f xs ≡ sum_over g xs
+pub sum_over_like : {X : Type 0} (f g : X → ℕ) (xs : List X) → AllByRecursion (λ x. f x ≡ g x) xs → sum_over f xs ≡ sum_over g xs
 unfolding sum_over
 sum_over_like f g [] a = refl
 sum_over_like f g (x ∷ xs) a = omega (arith, a.0, sum_over_like f g xs a.1)
@@ -47,7 +47,7 @@ pub every_group : ℕ → List Group
 every_group zero = [] ∷ []
 every_group (suc n) = map (λ g. false ∷ g) (every_group n) ++ map (λ g. true ∷ g) (every_group n)
 
-pub every_group_are : (n : ℕ) → All (λ h. length h ≡ n) (every_group n)
+pub every_group_are : (n : ℕ) → AllByRecursion (λ h. length h ≡ n) (every_group n)
 unfolding every_group
 every_group_are zero = (refl, tt)
 every_group_are (suc n) = All-append (λ h. length h ≡ suc n) (map (λ g. false ∷ g) (every_group n)) (map (λ g. true ∷ g) (every_group n))
@@ -134,7 +134,7 @@ counts_once (h ∷ gs) g d has = ⊎_elim
     apart e k = all-has (λ x. x ≡ h → ⊥) gs g d.0 k (sym e)
 
 -- the blocks of a list, counted by group
-pub tally_total : (gs : List Group) (xs : List Block) → All (λ x. sum_over (λ h. cond (same_group x.of h) 1 0) gs ≡ 1) xs → sum_over (tally xs) gs ≡ length xs
+pub tally_total : (gs : List Group) (xs : List Block) → AllByRecursion (λ x. sum_over (λ h. cond (same_group x.of h) 1 0) gs ≡ 1) xs → sum_over (tally xs) gs ≡ length xs
 unfolding sum_over
 tally_total gs [] v = sum_over_none gs
 tally_total gs (x ∷ xs) v =

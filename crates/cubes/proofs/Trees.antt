@@ -1,6 +1,6 @@
 -- The groups of a scan are a tree that keeps the laws of the machine, and the release by blocks is the release by numbers.
 use Rattle.std.proofs.Common.{◌≡◌, ℕ, zero, suc, ◌+◌, ◌%◌, ◌<◌, ◌≤◌, Bool, true, false, cond, not, eqb, List, [], ◌∷◌, map, length, get_or, set, sym, refl, ap, ◌∙◌, subst, ⊎_elim, arith}
-use Rattle.std.specs.List.{range_with_len, flat_map, ContainsAt as Has, AllByRecursion as All}
+use Rattle.std.specs.List.{range_with_len, flat_map, ContainsAt as Has, AllByRecursion}
 use Rattle.std.proofs.ByRecursion.{all-has, all_has_itself, All-weaker, all_kept_by, kept_by_passes}
 use Rattle.std.proofs.lemmas.Bool.{true≢false, and_parts, and_from, not-true}
 use Rattle.std.proofs.lemmas.List.{length-set, length-map, get_or_default}
@@ -100,7 +100,7 @@ module _ (ds : List Dim) (place : ℕ → ℕ) (adds : Group → ℕ) (all : Lis
   pub parent_has : (h : Group) → ChildOf adds all h → Has all (parent adds h)
   parent_has h k = S.grouped.has_parent h k.0 (lacking_not_root h k.1)
 
-  pub children_are : (g : Group) → All (λ h. ChildOf adds all h × (parent adds h ≡ g)) (children adds all g)
+  pub children_are : (g : Group) → AllByRecursion (λ h. ChildOf adds all h × (parent adds h ≡ g)) (children adds all g)
   children_are g = all_both (λ h. child adds g h ≡ true) (Has all) (λ h. ChildOf adds all h × (parent adds h ≡ g))
       (λ h c k. let (a, b) = and_parts (lacks h (adds h)) (same_group (parent adds h) g) c in ((k, a), same_group_true (parent adds h) g b))
       (children adds all g) (kept_by_passes (child adds g) all) (all_kept_by (child adds g) (Has all) all (all_has_itself all))
@@ -141,7 +141,7 @@ module _ (ds : List Dim) (place : ℕ → ℕ) (adds : Group → ℕ) (all : Lis
       (cases_group h (root (length ds)))
 
   child_like : (f s : ℕ) (h : Group) → ChildOf adds all h → s < product (radix (parent adds h) (counts ds))
-      → ((ss : List ℕ) → All (λ u. u < product (radix h (counts ds))) ss
+      → ((ss : List ℕ) → AllByRecursion (λ u. u < product (radix h (counts ds))) ss
       → release ds place adds all f h (map (scan_digits place (radix h (counts ds))) ss)
       ≡ map (numbered_block ds place) (release_numbers (tree ds place adds all) f h ss))
       → cond (completes ds place adds h (scan_digits place (radix (parent adds h) (counts ds)) s))
@@ -169,7 +169,7 @@ module _ (ds : List Dim) (place : ℕ → ℕ) (adds : Group → ℕ) (all : Lis
       step false e = refl
 
   -- a release by blocks is the release by their numbers
-  pub release_is : (f : ℕ) (g : Group) (ss : List ℕ) → All (λ s. s < product (radix g (counts ds))) ss
+  pub release_is : (f : ℕ) (g : Group) (ss : List ℕ) → AllByRecursion (λ s. s < product (radix g (counts ds))) ss
       → release ds place adds all f g (map (scan_digits place (radix g (counts ds))) ss)
       ≡ map (numbered_block ds place) (release_numbers (tree ds place adds all) f g ss)
   unfolding release release_numbers

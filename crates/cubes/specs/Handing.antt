@@ -2,7 +2,7 @@
 -- place gives each dimension its place, from 1. adds gives for each group but the root the dimension that its parent has more.
 -- all lists the groups by rising mask: each once, and with each group but the root its parent.
 use Rattle.std.specs.Prelude.{◌≡◌, ℕ, zero, suc, ◌+◌, ◌<◌, Bool, true, false, cond, not, ◌&&◌, ◌||◌, List, [], ◌∷◌, map, length, filter, ◌==◌, ◌≢◌, nat_le, nat_lt, slice_index, slice_index_or, slice_set}
-use Rattle.std.specs.List.{range_with_len, flat_map, ContainsAt as Has, AllByRecursion as All}
+use Rattle.std.specs.List.{range_with_len, flat_map, ContainsAt as Has, AllByRecursion}
 use Rattle.shapes.specs.declared.dims.Dim.{Dim}
 use Rattle.shapes.specs.Arrays.{Group, product, number, radix, counts, chunks, total_chunks, dim, keeps, mask, root}
 use Rattle.plans.specs.Plans.{Edged, Lacks, Order}
@@ -110,7 +110,7 @@ tally xs h = length (filter (of_group h) xs)
 -- no two elements are the same
 abbrev pub Distinct : {X : Type 0} → List X → Type 0
 Distinct [] = Unit {0}
-Distinct (x ∷ xs) = All (λ y. y ≢ x) xs × Distinct xs
+Distinct (x ∷ xs) = AllByRecursion (λ y. y ≢ x) xs × Distinct xs
 
 -- the blocks of all groups of all dimensions: the product of the chunk counts, each plus 1
 abbrev pub block_count : List Dim → ℕ
@@ -118,7 +118,7 @@ block_count ds = product (map (λ d. chunks d + 1) ds)
 
 -- the groups of a scan: each once, the root among them, and with each other group its parent, which adds a dimension that the group lacks
 pub record Grouped (ds : List Dim) (adds : Group → ℕ) (all : List Group) : Type 0 where
-  pub sized : All (λ h. length h ≡ length ds) all
+  pub sized : AllByRecursion (λ h. length h ≡ length ds) all
   pub once : Distinct all
   pub has_root : Has all (root (length ds))
   pub lacking : (h : Group) → Has all h → (h ≢ root (length ds)) → Lacks ds h (adds h)

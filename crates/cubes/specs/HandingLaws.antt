@@ -1,6 +1,6 @@
 -- What is proved of the handing order, for every order of the dimensions, every choice of parents and every list of groups with their parents. Assumes nothing.
 use Rattle.std.specs.Prelude.{◌≡◌, ℕ, suc, ◌+◌, ◌*◌, ◌<◌, ◌≤◌, true, cond, ◌↔◌, List, [], ◌∷◌, ◌++◌, map, length, sum, filter, ◌≢◌}
-use Rattle.std.specs.List.{flat_map, ContainsAt as Has, AllByRecursion as All}
+use Rattle.std.specs.List.{flat_map, ContainsAt as Has, AllByRecursion}
 use Rattle.shapes.specs.declared.dims.Dim.{Dim}
 use Rattle.shapes.specs.Arrays.{Group, Below, product, number, radix, only, edges, counts, total_chunks, agrees, groups, root}
 use Rattle.plans.specs.Plans.{Edged, Order, Parents, cells, need, others}
@@ -41,7 +41,7 @@ InScanOrder = (ds : List Dim) (place : ℕ → ℕ) (adds : Group → ℕ) (all 
 -- what is handed out are blocks of the groups
 abbrev pub BlocksOfGroups : Type 0
 BlocksOfGroups = (ds : List Dim) (place : ℕ → ℕ) (adds : Group → ℕ) (all : List Group) → Scan ds place adds all
-    → All (λ b. Has all b.of × Below (radix b.of (counts ds)) b.at) (handing ds place adds all)
+    → AllByRecursion (λ b. Has all b.of × Below (radix b.of (counts ds)) b.at) (handing ds place adds all)
 
 -- no block is handed out twice, also as named by mask and block number
 abbrev pub EachBlockOnce : Type 0
@@ -51,7 +51,7 @@ EachBlockOnce = (ds : List Dim) (place : ℕ → ℕ) (adds : Group → ℕ) (al
 -- the block number of each block counts over the kept dimensions alone
 abbrev pub NumbersOverKept : Type 0
 NumbersOverKept = (ds : List Dim) (place : ℕ → ℕ) (adds : Group → ℕ) (all : List Group) → Scan ds place adds all
-    → All (λ b. number (radix b.of (counts ds)) b.at ≡ number (only b.of (counts ds)) (only b.of b.at)) (handing ds place adds all)
+    → AllByRecursion (λ b. number (radix b.of (counts ds)) b.at ≡ number (only b.of (counts ds)) (only b.of b.at)) (handing ds place adds all)
 
 -- there are as many blocks as the groups have, and of all groups the product of the chunk counts, each plus 1
 pub record HowManyBlocks : Type 0 where
@@ -68,14 +68,14 @@ ReleasedIsFront = (ds : List Dim) (place : ℕ → ℕ) (adds : Group → ℕ) (
 -- when a block is handed out, all chunks beneath it have been passed: those that agree with it in the kept dimensions
 abbrev pub ChunksPassed : Type 0
 ChunksPassed = (ds : List Dim) (place : ℕ → ℕ) (adds : Group → ℕ) (all : List Group) → Scan ds place adds all → (t : ℕ) → t ≤ total_chunks ds
-    → All (λ b. (c : List ℕ) → Below (counts ds) c → agrees b.of b.at c ≡ true → scan_number place (counts ds) c < t) (released_by ds place adds all t)
+    → AllByRecursion (λ b. (c : List ℕ) → Below (counts ds) c → agrees b.of b.at c ≡ true → scan_number place (counts ds) c < t) (released_by ds place adds all t)
 
 -- each region of a group has as many blocks and, times the cells of one, the cells that the plan counts for the group;
 -- so the need is the cells of the root's block and those of one region of every other group
 pub record RegionCells : Type 0 where
   pub each : (ds : List Dim) (place : ℕ → ℕ) (adds : Group → ℕ) (all : List Group) → Divided ds → Scan ds place adds all
       → (h : Group) → Has all h → (h ≢ root (length ds))
-      → All (λ b. (length (region ds place adds h b) ≡ region_blocks ds place adds h)
+      → AllByRecursion (λ b. (length (region ds place adds h b) ≡ region_blocks ds place adds h)
       × (length (region ds place adds h b) * product (radix h (edges ds)) ≡ cells ds place h (adds h))) (blocks ds place (parent adds h))
   pub together : (ds : List Dim) (place : ℕ → ℕ) (adds : Group → ℕ) → Divided ds → Order ds place → Parents ds adds
       → need ds place adds

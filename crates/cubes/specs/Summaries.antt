@@ -1,7 +1,7 @@
 -- The direct summaries, and what a region of a group holds while its parent's blocks are joined into it. Assumes nothing.
 -- Cells, chunks and blocks go by their coordinates, listed by dimension number; a block has 0 in each dropped dimension.
 use Rattle.std.specs.Prelude.{◌≡◌, ℕ, zero, suc, ◌+◌, ◌*◌, ◌%◌, ◌≤◌, Bool, true, cond, ◌&&◌, List, map, filter, nat_lt, slice_index_or, slice_set}
-use Rattle.std.specs.List.{AllByRecursion as All}
+use Rattle.std.specs.List.{AllByRecursion}
 use Rattle.shapes.specs.declared.dims.Dim.{Dim}
 use Rattle.shapes.specs.Arrays.{Group, number, digits, all_digits, radix, sizes, edges, chunks, dim, chunk_of, cell_at, storage, offset, agrees, cleared}
 use Rattle.measures.specs.Laws.{total}
@@ -10,7 +10,7 @@ use Rattle.cubes.specs.Meanings.{is_readable, values_of}
 
 -- each edge is 1 to the size, and divides it
 abbrev pub Divided : List Dim → Type 0
-Divided ds = All (λ (d : Dim). (1 ≤ d.edge) × (d.edge ≤ d.size) × (d.size % d.edge ≡ 0)) ds
+Divided ds = AllByRecursion (λ (d : Dim). (1 ≤ d.edge) × (d.edge ≤ d.size) × (d.size % d.edge ≡ 0)) ds
 
 -- the join of the empty value and of f at the numbers below n
 abbrev pub big : {M : Type 0} → M → (M → M → M) → (ℕ → M) → ℕ → M

@@ -1,7 +1,7 @@
 -- A group has its fewest cells where its parent adds the missing dimension of earliest place; the cells of all groups but the root are then `below_root`.
 -- D has the sizes, C the edges, p the places of the dimensions below n.
 use Rattle.std.proofs.Common.{◌≡◌, ℕ, zero, suc, ◌+◌, ◌-◌, ◌*◌, ◌^◌, ◌<◌, ◌≤◌, Bool, true, false, cond, not, ◌&&◌, ltb, ◌⊎◌, List, [], ◌∷◌, fold, sym, refl, ap, ◌∙◌, inl, inr, le_refl, le_antisymm, mul-zero, zero-mul, arith}
-use Rattle.std.specs.List.{range_with_len, prefix_len, AllByRecursion as All}
+use Rattle.std.specs.List.{range_with_len, prefix_len, AllByRecursion}
 use Rattle.std.proofs.lemmas.Bool.{cases_lt, lt-ltb, le-ltb, true≢false}
 use Rattle.shapes.specs.Arrays.{Group, group, keeps}
 use Rattle.shapes.proofs.Masks.{keeps_root, length-group, lowest_lacks}
@@ -159,9 +159,9 @@ record Sought (p : ℕ → ℕ) (n : ℕ) (g : Group) (xs : List ℕ) (b e : ℕ
   inside : e < n
   lacks : keeps g e ≡ false
   below : p e ≤ p b
-  low : All (λ i. keeps g i ≡ false → p e ≤ p i) xs
+  low : AllByRecursion (λ i. keeps g i ≡ false → p e ≤ p i) xs
 
-seek : (p : ℕ → ℕ) (n : ℕ) (g : Group) (xs : List ℕ) (b : ℕ) → All (λ i. i < n) xs → b < n → keeps g b ≡ false → Sought p n g xs b (sought p g xs b)
+seek : (p : ℕ → ℕ) (n : ℕ) (g : Group) (xs : List ℕ) (b : ℕ) → AllByRecursion (λ i. i < n) xs → b < n → keeps g b ≡ false → Sought p n g xs b (sought p g xs b)
 unfolding sought
 seek p n g [] b a h k = record { inside = h; lacks = k; below = le_refl (p b); low = tt }
 seek p n g (x ∷ xs) b a h k = go (λ c. seek p n g xs c a.1) (keeps g x) refl (cases_lt (p x) (p b))

@@ -2,7 +2,7 @@
 -- D has the sizes, C the edges, p the places.
 use Rattle.std.proofs.Common.{◌≡◌, ℕ, ◌+◌, ◌*◌, ◌<◌, ◌≤◌, cond, ltb, ◌⊎◌, List, [], ◌∷◌, sym, refl, ap, ◌∙◌, inl, inr, mul-le-mul_right, le_antisymm, mul-le-mul_left, one-mul, le_of_mul-le-mul_right, mul_left_comm, arith}
 use native.Mathlib.Nat.{le_of_mul-le-mul_left}
-use Rattle.std.specs.List.{AllByRecursion as All}
+use Rattle.std.specs.List.{AllByRecursion}
 use Rattle.std.proofs.lemmas.Bool.{cases_lt, lt-ltb, le-ltb}
 use Rattle.plans.proofs.Sums.{total, times, total_nil, times_cons, total_same, times_same, total_scaled, times_pos, Reordered, reordered_back, total_reordered, times_reordered, all_reordered, Pairs, pairs_reordered, every, all_weak, all_both, Sorted, sort}
 
@@ -62,11 +62,11 @@ below_root_cons : (D C p : ℕ → ℕ) (m : ℕ) (xs : List ℕ) → below_root
 unfolding below_root as_placed by_earliest total times
 below_root_cons D C p m xs = rw (factor_self D C p m, one-mul) refl
 
-times_after : (D C p : ℕ → ℕ) (m : ℕ) (xs : List ℕ) → All (λ i. p m < p i) xs → times (factor D C p m) xs ≡ times (λ i. 1 + C i) xs
+times_after : (D C p : ℕ → ℕ) (m : ℕ) (xs : List ℕ) → AllByRecursion (λ i. p m < p i) xs → times (factor D C p m) xs ≡ times (λ i. 1 + C i) xs
 times_after D C p m xs h = times_same (factor D C p m) (λ i. 1 + C i) xs (all_weak (λ i. p m < p i) (λ i. factor D C p m i ≡ 1 + C i) (λ i. factor_after D C p m i) xs h)
 
 -- moved in front of all the others it is as if placed there
-as_placed_first : (D C p : ℕ → ℕ) (m : ℕ) (xs : List ℕ) → All (λ i. p m < p i) xs → as_placed D C p m xs ≡ moved_first D C p m xs
+as_placed_first : (D C p : ℕ → ℕ) (m : ℕ) (xs : List ℕ) → AllByRecursion (λ i. p m < p i) xs → as_placed D C p m xs ≡ moved_first D C p m xs
 unfolding as_placed moved_first below_root by_earliest
 as_placed_first D C p m xs h =
     omega (
@@ -76,16 +76,16 @@ as_placed_first D C p m xs h =
           (all_weak (λ i. p m < p i) (λ e. factor D C p e m * times (factor D C p e) xs ≡ D m * times (factor D C p e) xs) (λ e l. ap (λ k. k * times (factor D C p e) xs) (factor_before D C p e m l)) xs h),
     )
 
-below_root_first : (D C p : ℕ → ℕ) (m : ℕ) (xs : List ℕ) → All (λ i. p m < p i) xs → below_root D C p (m ∷ xs) ≡ times (λ i. 1 + C i) xs + D m * below_root D C p xs
+below_root_first : (D C p : ℕ → ℕ) (m : ℕ) (xs : List ℕ) → AllByRecursion (λ i. p m < p i) xs → below_root D C p (m ∷ xs) ≡ times (λ i. 1 + C i) xs + D m * below_root D C p xs
 unfolding moved_first
 below_root_first D C p m xs h = below_root_cons D C p m xs ∙ as_placed_first D C p m xs h
 
 -- a dimension placed before m and before xs splits off
-moved_first_cons : (D C p : ℕ → ℕ) (m a : ℕ) (xs : List ℕ) → All (λ i. p a < p i) xs → moved_first D C p m (a ∷ xs) ≡ (1 + C a) * times (λ i. 1 + C i) xs + D m * (times (λ i. 1 + C i) xs + D a * below_root D C p xs)
+moved_first_cons : (D C p : ℕ → ℕ) (m a : ℕ) (xs : List ℕ) → AllByRecursion (λ i. p a < p i) xs → moved_first D C p m (a ∷ xs) ≡ (1 + C a) * times (λ i. 1 + C i) xs + D m * (times (λ i. 1 + C i) xs + D a * below_root D C p xs)
 unfolding moved_first
 moved_first_cons D C p m a xs h = rw (times_cons (λ i. 1 + C i) a xs, below_root_first D C p a xs h) refl
 
-as_placed_cons : (D C p : ℕ → ℕ) (m a : ℕ) (xs : List ℕ) → p a < p m → All (λ i. p a < p i) xs → as_placed D C p m (a ∷ xs) ≡ (1 + C m) * times (λ i. 1 + C i) xs + D a * as_placed D C p m xs
+as_placed_cons : (D C p : ℕ → ℕ) (m a : ℕ) (xs : List ℕ) → p a < p m → AllByRecursion (λ i. p a < p i) xs → as_placed D C p m (a ∷ xs) ≡ (1 + C m) * times (λ i. 1 + C i) xs + D a * as_placed D C p m xs
 unfolding as_placed by_earliest total times
 as_placed_cons D C p m a xs l h =
     rw (factor_before D C p m a l, factor_after D C p a m l, factor_self D C p a, times_after D C p a xs h)
@@ -111,11 +111,11 @@ step_eq_rest : (T H W c d c' d' : ℕ) → 1 ≤ d → c + d' ≤ c' + d → T +
 step_eq_rest T H W c d c' d' t s ih e =
     let k : d * W ≤ d * (T + d' * H) = omega (arith, mul-le-mul_right T s) in le_antisymm (le_of_mul-le-mul_left k t) ih
 
-first_when : (p : ℕ → ℕ) (m x : ℕ) (xs : List ℕ) → All (λ i. p x < p i) xs → (p m ≡ p x → ⊥) → p m ≤ p x → All (λ i. p m < p i) (x ∷ xs)
+first_when : (p : ℕ → ℕ) (m x : ℕ) (xs : List ℕ) → AllByRecursion (λ i. p x < p i) xs → (p m ≡ p x → ⊥) → p m ≤ p x → AllByRecursion (λ i. p m < p i) (x ∷ xs)
 first_when p m x xs r a h = let k : p m < p x = omega arith in (k, all_weak (λ i. p x < p i) (λ i. p m < p i) (λ i l. omega arith) xs r)
 
 -- moving m, of least slack, before all the others takes no more cells
-first_sorted : (D C p : ℕ → ℕ) (m : ℕ) (xs : List ℕ) → Pairs (λ x y. p x < p y) xs → All (λ i. p m ≡ p i → ⊥) xs → All (SlackLe D C m) xs → moved_first D C p m xs ≤ as_placed D C p m xs
+first_sorted : (D C p : ℕ → ℕ) (m : ℕ) (xs : List ℕ) → Pairs (λ x y. p x < p y) xs → AllByRecursion (λ i. p m ≡ p i → ⊥) xs → AllByRecursion (SlackLe D C m) xs → moved_first D C p m xs ≤ as_placed D C p m xs
 unfolding moved_first
 first_sorted D C p m [] r a s = omega (arith, as_placed_first D C p m [] tt)
 first_sorted D C p m (x ∷ xs) r a s = go (cases_lt (p x) (p m)) (first_sorted D C p m xs r.1 a.1 s.1)
@@ -127,13 +127,13 @@ first_sorted D C p m (x ∷ xs) r a s = go (cases_lt (p x) (p m)) (first_sorted 
     go (inr h) ih = omega (arith, as_placed_first D C p m (x ∷ xs) (first_when p m x xs r.0 a.0 h))
 
 -- and just as many only if no dimension placed before it has more slack
-first_sorted_only : (D C p : ℕ → ℕ) (m : ℕ) (xs : List ℕ) → Pairs (λ x y. p x < p y) xs → All (λ i. p m ≡ p i → ⊥) xs → All (SlackLe D C m) xs → All (λ i. 1 ≤ D i) xs
-    → as_placed D C p m xs ≡ moved_first D C p m xs → All (λ i. p i < p m → SlackLe D C i m) xs
+first_sorted_only : (D C p : ℕ → ℕ) (m : ℕ) (xs : List ℕ) → Pairs (λ x y. p x < p y) xs → AllByRecursion (λ i. p m ≡ p i → ⊥) xs → AllByRecursion (SlackLe D C m) xs → AllByRecursion (λ i. 1 ≤ D i) xs
+    → as_placed D C p m xs ≡ moved_first D C p m xs → AllByRecursion (λ i. p i < p m → SlackLe D C i m) xs
 unfolding moved_first
 first_sorted_only D C p m [] r a s o e = tt
 first_sorted_only D C p m (x ∷ xs) r a s o e = go (cases_lt (p x) (p m)) (first_sorted_only D C p m xs r.1 a.1 s.1 o.1)
   where
-    go : (p x < p m) ⊎ (p m ≤ p x) → (as_placed D C p m xs ≡ moved_first D C p m xs → All (λ i. p i < p m → SlackLe D C i m) xs) → All (λ i. p i < p m → SlackLe D C i m) (x ∷ xs)
+    go : (p x < p m) ⊎ (p m ≤ p x) → (as_placed D C p m xs ≡ moved_first D C p m xs → AllByRecursion (λ i. p i < p m → SlackLe D C i m) xs) → AllByRecursion (λ i. p i < p m → SlackLe D C i m) (x ∷ xs)
     go (inl h) ih =
         let T : ℕ = times (λ i. 1 + C i) xs in
         let H : ℕ = below_root D C p xs in
@@ -148,7 +148,7 @@ first_sorted_only D C p m (x ∷ xs) r a s o e = go (cases_lt (p x) (p m)) (firs
 abbrev pub Apart : (ℕ → ℕ) → List ℕ → Type 0
 Apart p xs = Pairs (λ x y. p x ≡ p y → ⊥) xs
 
-first_le : (D C p : ℕ → ℕ) (m : ℕ) (xs : List ℕ) → Apart p xs → All (λ i. p m ≡ p i → ⊥) xs → All (SlackLe D C m) xs → moved_first D C p m xs ≤ as_placed D C p m xs
+first_le : (D C p : ℕ → ℕ) (m : ℕ) (xs : List ℕ) → Apart p xs → AllByRecursion (λ i. p m ≡ p i → ⊥) xs → AllByRecursion (SlackLe D C m) xs → moved_first D C p m xs ≤ as_placed D C p m xs
 first_le D C p m xs u a s = go (sort p xs u)
   where
     go : Sorted p xs → moved_first D C p m xs ≤ as_placed D C p m xs
@@ -156,11 +156,11 @@ first_le D C p m xs u a s = go (sort p xs u)
         rw (moved_first_reordered D C p m l.reordered, as_placed_reordered D C p m l.reordered)
         (first_sorted D C p m l.list l.rises (all_reordered (λ i. p m ≡ p i → ⊥) l.reordered a) (all_reordered (SlackLe D C m) l.reordered s))
 
-first_le_only : (D C p : ℕ → ℕ) (m : ℕ) (xs : List ℕ) → Apart p xs → All (λ i. p m ≡ p i → ⊥) xs → All (SlackLe D C m) xs → All (λ i. 1 ≤ D i) xs
-    → as_placed D C p m xs ≡ moved_first D C p m xs → All (λ i. p i < p m → SlackLe D C i m) xs
+first_le_only : (D C p : ℕ → ℕ) (m : ℕ) (xs : List ℕ) → Apart p xs → AllByRecursion (λ i. p m ≡ p i → ⊥) xs → AllByRecursion (SlackLe D C m) xs → AllByRecursion (λ i. 1 ≤ D i) xs
+    → as_placed D C p m xs ≡ moved_first D C p m xs → AllByRecursion (λ i. p i < p m → SlackLe D C i m) xs
 first_le_only D C p m xs u a s o e = go (sort p xs u)
   where
-    go : Sorted p xs → All (λ i. p i < p m → SlackLe D C i m) xs
+    go : Sorted p xs → AllByRecursion (λ i. p i < p m → SlackLe D C i m) xs
     go l =
         all_reordered (λ i. p i < p m → SlackLe D C i m) (reordered_back l.reordered)
         (first_sorted_only D C p m l.list l.rises (all_reordered (λ i. p m ≡ p i → ⊥) l.reordered a) (all_reordered (SlackLe D C m) l.reordered s) (all_reordered (λ i. 1 ≤ D i) l.reordered o)
@@ -178,7 +178,7 @@ least_sorted D C p q (x ∷ xs) r s u =
 abbrev pub FollowsSlack : (D C p : ℕ → ℕ) → ℕ → ℕ → Type 0
 FollowsSlack D C p x y = (p x < p y → SlackLe D C x y) × (p y < p x → SlackLe D C y x)
 
-least_sorted_only : (D C p q : ℕ → ℕ) (xs : List ℕ) → Pairs (λ x y. q x < q y) xs → Pairs (SlackLe D C) xs → Apart p xs → All (λ i. 1 ≤ D i) xs → below_root D C p xs ≡ below_root D C q xs → Pairs (FollowsSlack D C p) xs
+least_sorted_only : (D C p q : ℕ → ℕ) (xs : List ℕ) → Pairs (λ x y. q x < q y) xs → Pairs (SlackLe D C) xs → Apart p xs → AllByRecursion (λ i. 1 ≤ D i) xs → below_root D C p xs ≡ below_root D C q xs → Pairs (FollowsSlack D C p) xs
 unfolding moved_first
 least_sorted_only D C p q [] r s u o e = tt
 least_sorted_only D C p q (x ∷ xs) r s u o e = (now_so, least_sorted_only D C p q xs r.1 s.1 u.1 o.1 rest)
@@ -195,7 +195,7 @@ least_sorted_only D C p q (x ∷ xs) r s u o e = (now_so, least_sorted_only D C 
     rest : below_root D C p xs ≡ below_root D C q xs
     rest = let k : D x * below_root D C p xs ≤ D x * below_root D C q xs = omega (arith, same, over) in le_antisymm (le_of_mul-le-mul_left k o.0) low
 
-    now_so : All (FollowsSlack D C p x) xs
+    now_so : AllByRecursion (FollowsSlack D C p x) xs
     now_so = all_both (SlackLe D C x) (λ i. p i < p x → SlackLe D C i x) (FollowsSlack D C p x) (λ i a b. ((λ _. a), b)) xs s.0
         (first_le_only D C p x xs u.1 u.0 s.0 o.1 (same ∙ rw rest refl))
 
@@ -213,7 +213,7 @@ module _ (D C p q : ℕ → ℕ) (xs : List ℕ) (up : Apart p xs) (uq : Apart q
           rw (below_root_reordered D C q l.reordered, below_root_reordered D C p l.reordered)
           (least_sorted D C p q l.list l.rises (slacks l.list l.rises (pairs_reordered (FollowsSlack D C q) (λ x y a. (a.1, a.0)) l.reordered mono)) (pairs_reordered (λ x y. p x ≡ p y → ⊥) (λ x y a e. a (sym e)) l.reordered up))
 
-  pub least_below_root_only : All (λ i. 1 ≤ D i) xs → below_root D C p xs ≡ below_root D C q xs → Pairs (FollowsSlack D C p) xs
+  pub least_below_root_only : AllByRecursion (λ i. 1 ≤ D i) xs → below_root D C p xs ≡ below_root D C q xs → Pairs (FollowsSlack D C p) xs
   least_below_root_only o e = go (sort q xs uq)
     where
       go : Sorted q xs → Pairs (FollowsSlack D C p) xs

@@ -1,7 +1,7 @@
 -- The plan needs the fewest cells of all orders and parents.
 use Rattle.std.proofs.Common.{◌≡◌, ℕ, suc, ◌+◌, ◌-◌, ◌*◌, ◌^◌, ◌<◌, ◌≤◌, Bool, true, false, cond, ltb, ◌⊎◌, List, [], ◌∷◌, map, length, sum, sym, refl, ap, ◌∙◌, inl, inr, le_trans, suc-mul, arith}
 use native.Mathlib.Nat.{one-le-pow}
-use Rattle.std.specs.List.{range_with_len, AllByRecursion as All}
+use Rattle.std.specs.List.{range_with_len, AllByRecursion}
 use Rattle.std.proofs.lemmas.List.Sums.{sum_by-cons}
 use Rattle.std.proofs.ByRecursion.{All-get_or, All-map}
 use Rattle.std.proofs.lemmas.Bool.{cases_order}
@@ -22,7 +22,7 @@ sum_maps f h (x ∷ xs) = sum_by-cons (λ k. k) (f (h x)) (map f (map h xs)) ∙
 one_less : (a s : ℕ) → 1 ≤ a → (a - 1) * s + s ≡ a * s
 one_less a s h = let e : suc (a - 1) ≡ a = omega arith in sym (suc-mul (a - 1) s) ∙ ap (λ k. k * s) e
 
-map_all : (P : Group → Type 0) (h : ℕ → Group) (xs : List ℕ) → All P (map h xs) → All (λ m. P (h m)) xs
+map_all : (P : Group → Type 0) (h : ℕ → Group) (xs : List ℕ) → AllByRecursion P (map h xs) → AllByRecursion (λ m. P (h m)) xs
 map_all P h [] a = tt
 map_all P h (x ∷ xs) a = (a.0, map_all P h xs a.1)
 
@@ -44,11 +44,11 @@ module _ (ds : List Dim) (edged : Edged ds) where
   unfolding n D C
   sized i l = let h = All-get_or (λ (d : Dim). (1 ≤ d.edge) × (d.edge ≤ d.size)) ds i none_dim l edged in omega (arith, h.0, h.1)
 
-  of_others : (P : Group → Type 0) → All P (others ds) → (m : ℕ) → m + 1 < 2 ^ n → P (group n m)
+  of_others : (P : Group → Type 0) → AllByRecursion P (others ds) → (m : ℕ) → m + 1 < 2 ^ n → P (group n m)
   unfolding n
   of_others P a m h = counting_all (λ m. P (group n m)) 0 (2 ^ length ds - 1) (map_all P (group n) (range_with_len 0 (2 ^ length ds - 1)) a) m (omega arith) (omega arith)
 
-  to_others : (P : Group → Type 0) → ((m : ℕ) → m + 1 < 2 ^ n → P (group n m)) → All P (others ds)
+  to_others : (P : Group → Type 0) → ((m : ℕ) → m + 1 < 2 ^ n → P (group n m)) → AllByRecursion P (others ds)
   unfolding n
   to_others P f = All-map P (group n) (range_with_len 0 (2 ^ length ds - 1)) (all_counting (λ m. P (group n m)) 0 (2 ^ length ds - 1) (λ m _ l. f m (omega arith)))
 
@@ -100,7 +100,7 @@ module _ (ds : List Dim) (edged : Edged ds) where
   unfolding n
   early_parents place = to_others (λ g. Lacks ds g (earliest place g)) (λ m h. let q = earliest_is place n m h in (q.inside, q.lacks))
 
-  early_first : (place : ℕ → ℕ) → All (λ g. (e : ℕ) → Lacks ds g e → place (earliest place g) ≤ place e) (others ds)
+  early_first : (place : ℕ → ℕ) → AllByRecursion (λ g. (e : ℕ) → Lacks ds g e → place (earliest place g) ≤ place e) (others ds)
   unfolding n
   early_first place = to_others (λ g. (e : ℕ) → Lacks ds g e → place (earliest place g) ≤ place e) (λ m h e k. (earliest_is place n m h).low e k.0 k.1)
 

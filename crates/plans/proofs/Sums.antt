@@ -1,7 +1,7 @@
 -- Sums and products over a list, lists that differ in order alone, what holds of each pair of a list.
 use Rattle.std.proofs.Common.{◌≡◌, ℕ, zero, suc, ◌+◌, ◌*◌, ◌<◌, ◌≤◌, ◌⊎◌, List, [], ◌∷◌, map, sym, refl, ap, ◌∙◌, inl, inr, le_trans, le_refl, add-zero, mul_assoc, mul-le-mul, le-mul_of_pos_right, mul_left_comm, add-one, arith}
 use native.Mathlib.Nat.{one-le-mul}
-use Rattle.std.specs.List.{range_with_len, AllByRecursion as All}
+use Rattle.std.specs.List.{range_with_len, AllByRecursion}
 use Rattle.std.proofs.lemmas.Bool.{cases_lt}
 use Rattle.shapes.specs.Arrays.{product}
 
@@ -30,22 +30,22 @@ unfolding times
 product_is f [] = refl
 product_is f (x ∷ xs) = ap (λ k. f x * k) (product_is f xs)
 
-pub total_same : (f g : ℕ → ℕ) (xs : List ℕ) → All (λ x. f x ≡ g x) xs → total f xs ≡ total g xs
+pub total_same : (f g : ℕ → ℕ) (xs : List ℕ) → AllByRecursion (λ x. f x ≡ g x) xs → total f xs ≡ total g xs
 unfolding total
 total_same f g [] h = refl
 total_same f g (x ∷ xs) h = omega (arith, h.0, total_same f g xs h.1)
 
-pub times_same : (f g : ℕ → ℕ) (xs : List ℕ) → All (λ x. f x ≡ g x) xs → times f xs ≡ times g xs
+pub times_same : (f g : ℕ → ℕ) (xs : List ℕ) → AllByRecursion (λ x. f x ≡ g x) xs → times f xs ≡ times g xs
 unfolding times
 times_same f g [] h = refl
 times_same f g (x ∷ xs) h = rw (h.0, times_same f g xs h.1) refl
 
-pub total_scaled : (k : ℕ) (f g : ℕ → ℕ) (xs : List ℕ) → All (λ x. f x ≡ k * g x) xs → total f xs ≡ k * total g xs
+pub total_scaled : (k : ℕ) (f g : ℕ → ℕ) (xs : List ℕ) → AllByRecursion (λ x. f x ≡ k * g x) xs → total f xs ≡ k * total g xs
 unfolding total
 total_scaled k f g [] h = omega arith
 total_scaled k f g (x ∷ xs) h = omega (arith, h.0, total_scaled k f g xs h.1)
 
-pub total_zero : (f : ℕ → ℕ) (xs : List ℕ) → All (λ x. f x ≡ 0) xs → total f xs ≡ 0
+pub total_zero : (f : ℕ → ℕ) (xs : List ℕ) → AllByRecursion (λ x. f x ≡ 0) xs → total f xs ≡ 0
 unfolding total
 total_zero f [] h = refl
 total_zero f (x ∷ xs) h = omega (arith, h.0, total_zero f xs h.1)
@@ -55,7 +55,7 @@ unfolding total
 total_plus f g [] = refl
 total_plus f g (x ∷ xs) = omega (arith, total_plus f g xs)
 
-pub total_le : (f g : ℕ → ℕ) (xs : List ℕ) → All (λ x. f x ≤ g x) xs → total f xs ≤ total g xs
+pub total_le : (f g : ℕ → ℕ) (xs : List ℕ) → AllByRecursion (λ x. f x ≤ g x) xs → total f xs ≤ total g xs
 unfolding total
 total_le f g [] h = omega arith
 total_le f g (x ∷ xs) h = omega (arith, h.0, total_le f g xs h.1)
@@ -92,12 +92,12 @@ times_more f n =
     let z : 0 + n ≡ n = omega arith in
     rw (add-one n) (times_last f 0 n ∙ ap (λ k. times f (range_with_len 0 n) * f k) z)
 
-pub times_le : (f g : ℕ → ℕ) (xs : List ℕ) → All (λ x. f x ≤ g x) xs → times f xs ≤ times g xs
+pub times_le : (f g : ℕ → ℕ) (xs : List ℕ) → AllByRecursion (λ x. f x ≤ g x) xs → times f xs ≤ times g xs
 unfolding times
 times_le f g [] h = omega arith
 times_le f g (x ∷ xs) h = mul-le-mul h.0 (times_le f g xs h.1)
 
-pub times_pos : (f : ℕ → ℕ) (xs : List ℕ) → All (λ x. 1 ≤ f x) xs → 1 ≤ times f xs
+pub times_pos : (f : ℕ → ℕ) (xs : List ℕ) → AllByRecursion (λ x. 1 ≤ f x) xs → 1 ≤ times f xs
 unfolding times
 times_pos f [] h = omega arith
 times_pos f (x ∷ xs) h = one-le-mul h.0 (times_pos f xs h.1)
@@ -141,7 +141,7 @@ times_reordered f (behind {x = x} m) = ap (λ k. f x * k) (times_reordered f m)
 times_reordered f (swap {x = x} {y = y} {xs = xs}) = mul_left_comm (f x) (f y) (times f xs)
 times_reordered f (then m n) = times_reordered f m ∙ times_reordered f n
 
-pub all_reordered : (P : ℕ → Type 0) {xs ys : List ℕ} → Reordered xs ys → All P xs → All P ys
+pub all_reordered : (P : ℕ → Type 0) {xs ys : List ℕ} → Reordered xs ys → AllByRecursion P xs → AllByRecursion P ys
 all_reordered P same h = h
 all_reordered P (behind m) h = (h.0, all_reordered P m h.1)
 all_reordered P swap h = (h.1.0, (h.0, h.1.1))
@@ -150,7 +150,7 @@ all_reordered P (then m n) h = all_reordered P n (all_reordered P m h)
 -- each element with each later one
 abbrev pub Pairs : (ℕ → ℕ → Type 0) → List ℕ → Type 0
 Pairs R [] = Unit {0}
-Pairs R (x ∷ xs) = All (R x) xs × Pairs R xs
+Pairs R (x ∷ xs) = AllByRecursion (R x) xs × Pairs R xs
 
 pub pairs_reordered : (R : ℕ → ℕ → Type 0) → ((x y : ℕ) → R x y → R y x) → {xs ys : List ℕ} → Reordered xs ys → Pairs R xs → Pairs R ys
 pairs_reordered R s same h = h
@@ -158,15 +158,15 @@ pairs_reordered R s (behind {x = x} m) h = (all_reordered (R x) m h.0, pairs_reo
 pairs_reordered R s (swap {x = x} {y = y}) h = ((s x y h.0.0, h.1.0), (h.0.1, h.1.1))
 pairs_reordered R s (then m n) h = pairs_reordered R s n (pairs_reordered R s m h)
 
-pub every : (P : ℕ → Type 0) → ((e : ℕ) → P e) → (zs : List ℕ) → All P zs
+pub every : (P : ℕ → Type 0) → ((e : ℕ) → P e) → (zs : List ℕ) → AllByRecursion P zs
 every P f [] = tt
 every P f (z ∷ zs) = (f z, every P f zs)
 
-pub all_weak : (P Q : ℕ → Type 0) → ((x : ℕ) → P x → Q x) → (xs : List ℕ) → All P xs → All Q xs
+pub all_weak : (P Q : ℕ → Type 0) → ((x : ℕ) → P x → Q x) → (xs : List ℕ) → AllByRecursion P xs → AllByRecursion Q xs
 all_weak P Q f [] h = tt
 all_weak P Q f (x ∷ xs) h = (f x h.0, all_weak P Q f xs h.1)
 
-pub all_both : (P Q R : ℕ → Type 0) → ((x : ℕ) → P x → Q x → R x) → (xs : List ℕ) → All P xs → All Q xs → All R xs
+pub all_both : (P Q R : ℕ → Type 0) → ((x : ℕ) → P x → Q x → R x) → (xs : List ℕ) → AllByRecursion P xs → AllByRecursion Q xs → AllByRecursion R xs
 all_both P Q R f [] h k = tt
 all_both P Q R f (x ∷ xs) h k = (f x h.0 k.0, all_both P Q R f xs h.1 k.1)
 
@@ -176,7 +176,7 @@ pub record Sorted (k : ℕ → ℕ) (xs : List ℕ) : Type 0 where
   pub reordered : Reordered xs list
   pub rises : Pairs (λ x y. k x < k y) list
 
-pub insert : (k : ℕ → ℕ) (x : ℕ) (ys : List ℕ) → Pairs (λ a b. k a < k b) ys → All (λ y. k x ≡ k y → ⊥) ys → Sorted k (x ∷ ys)
+pub insert : (k : ℕ → ℕ) (x : ℕ) (ys : List ℕ) → Pairs (λ a b. k a < k b) ys → AllByRecursion (λ y. k x ≡ k y → ⊥) ys → Sorted k (x ∷ ys)
 insert k x [] r a = record { list = x ∷ []; reordered = same; rises = (tt, tt) }
 insert k x (y ∷ ys) r a = go (cases_lt (k x) (k y)) (insert k x ys r.1 a.1)
   where
@@ -199,7 +199,7 @@ sort k (x ∷ xs) a = go (sort k xs a.1)
         more m = record { list = m.list; reordered = then (behind l.reordered) m.reordered; rises = m.rises }
 
 -- what holds of all numbers from a on, n of them
-pub all_counting : (P : ℕ → Type 0) (a n : ℕ) → ((i : ℕ) → a ≤ i → i < a + n → P i) → All P (range_with_len a n)
+pub all_counting : (P : ℕ → Type 0) (a n : ℕ) → ((i : ℕ) → a ≤ i → i < a + n → P i) → AllByRecursion P (range_with_len a n)
 all_counting P a zero f = tt
 all_counting P a (suc n) f = (f a (omega arith) (omega arith), all_counting P (a + 1) n (λ i h l. f i (omega arith) (omega arith)))
 
@@ -207,7 +207,7 @@ pub pairs_counting : (R : ℕ → ℕ → Type 0) (a n : ℕ) → ((i j : ℕ) �
 pairs_counting R a zero f = tt
 pairs_counting R a (suc n) f = (all_counting (R a) (a + 1) n (λ j h l. f a j (omega arith) (omega arith) (omega arith)), pairs_counting R (a + 1) n (λ i j h l m. f i j (omega arith) l (omega arith)))
 
-pub counting_all : (P : ℕ → Type 0) (a n : ℕ) → All P (range_with_len a n) → (i : ℕ) → a ≤ i → i < a + n → P i
+pub counting_all : (P : ℕ → Type 0) (a n : ℕ) → AllByRecursion P (range_with_len a n) → (i : ℕ) → a ≤ i → i < a + n → P i
 counting_all P a zero h i l m = absurd (omega arith)
 counting_all P a (suc n) h i l m = go (cases_lt a i) (counting_all P (a + 1) n h.1 i)
   where

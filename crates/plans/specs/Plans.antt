@@ -1,13 +1,13 @@
 -- What a scan order with a choice of parents needs, the plan, and what makes the plan the best. Assumes nothing.
 -- A dimension goes by its number, from 0; an order gives each its place, from 1.
 use Rattle.std.specs.Prelude.{◌≡◌, ℕ, ◌+◌, ◌-◌, ◌*◌, ◌^◌, ◌<◌, ◌≤◌, false, cond, not, ◌&&◌, ltb, ◌↔◌, List, map, length, fold, sum, count_by, ◌==◌, nat_lt}
-use Rattle.std.specs.List.{range_with_len, prefix_len, AllByRecursion as All}
+use Rattle.std.specs.List.{range_with_len, prefix_len, AllByRecursion}
 use Rattle.shapes.specs.declared.dims.Dim.{Dim}
 use Rattle.shapes.specs.Arrays.{Group, product, volume, extent, dim, numbers, keeps, group}
 
 -- each edge is 1 to the size
 abbrev pub Edged : List Dim → Type 0
-Edged ds = All (λ (d : Dim). (1 ≤ d.edge) × (d.edge ≤ d.size)) ds
+Edged ds = AllByRecursion (λ (d : Dim). (1 ≤ d.edge) × (d.edge ≤ d.size)) ds
 
 -- the dimension e is there, and the group does not keep it
 abbrev pub Lacks : List Dim → Group → ℕ → Type 0
@@ -24,7 +24,7 @@ pub record Order (ds : List Dim) (place : ℕ → ℕ) : Type 0 where
 
 -- a choice of parents: the parent of each group but the root adds one dimension that the group lacks
 abbrev pub Parents : List Dim → (Group → ℕ) → Type 0
-Parents ds adds = All (λ g. Lacks ds g (adds g)) (others ds)
+Parents ds adds = AllByRecursion (λ g. Lacks ds g (adds g)) (others ds)
 
 -- what dimension i brings to the cells of a group whose parent adds e: kept, its size where it is placed before e and its edge where after
 abbrev pub share : List Dim → (ℕ → ℕ) → Group → ℕ → ℕ → ℕ
@@ -40,7 +40,7 @@ need ds place adds = volume ds + sum (map (λ g. cells ds place g (adds g)) (oth
 
 -- best parents give each group its fewest cells in the order
 abbrev pub Best : List Dim → (ℕ → ℕ) → (Group → ℕ) → Type 0
-Best ds place adds = All (λ g. (e : ℕ) → Lacks ds g e → cells ds place g (adds g) ≤ cells ds place g e) (others ds)
+Best ds place adds = AllByRecursion (λ g. (e : ℕ) → Lacks ds g e → cells ds place g (adds g) ≤ cells ds place g e) (others ds)
 
 -- how much a dimension grows where all of it is kept in place of one chunk's edge
 abbrev pub slack : List Dim → ℕ → ℕ
@@ -76,7 +76,7 @@ pub record Least (ds : List Dim) : Type 0 where
   pub early : (place : ℕ → ℕ) → Order ds place → Parents ds (earliest place) × Best ds place (earliest place)
   pub order : Order ds (plan_place ds)
   pub parents : Parents ds (plan_adds ds)
-  pub first : All (λ g. (e : ℕ) → Lacks ds g e → plan_place ds (plan_adds ds g) ≤ plan_place ds e) (others ds)
+  pub first : AllByRecursion (λ g. (e : ℕ) → Lacks ds g e → plan_place ds (plan_adds ds g) ≤ plan_place ds e) (others ds)
   pub best : Best ds (plan_place ds) (plan_adds ds)
   pub rising : RisingSlack ds (plan_place ds)
   pub least : (place : ℕ → ℕ) (adds : Group → ℕ) → Order ds place → Parents ds adds → plan_need ds ≤ need ds place adds

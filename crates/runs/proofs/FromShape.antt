@@ -1,6 +1,6 @@
 -- What a shape gives: its dimensions are divided, and what every plan needs fits.
 use Rattle.std.proofs.Common.{ℕ, ◌^◌, ◌≤◌, List, [], ◌∷◌, length, mul-le-mul_right, arith, pow_mono}
-use Rattle.std.specs.List.{AllByRecursion as All}
+use Rattle.std.specs.List.{AllByRecursion}
 use Rattle.shapes.specs.declared.dims.Dim.{Dim}
 use Rattle.shapes.specs.declared.shape.Shape.{Shape}
 use Rattle.shapes.specs.Arrays.{Group, extent}
@@ -10,7 +10,7 @@ use Rattle.shapes.proofs.Held.{all_fit, limits}
 use Rattle.plans.specs.Plans.{need, Bounded}
 use Rattle.cubes.specs.Summaries.{Divided}
 
-fit_divided : (ds : List Dim) → All Fit ds → Divided ds
+fit_divided : (ds : List Dim) → AllByRecursion Fit ds → Divided ds
 fit_divided [] fit = tt
 fit_divided (d ∷ ds) fit = ((fit.0.2, fit.0.3, fit.0.4), fit_divided ds fit.1)
 

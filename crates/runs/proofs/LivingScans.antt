@@ -1,6 +1,6 @@
 -- What the plan's scan and the facts of a run's state say of its life: where the chunks are stored, which blocks are there, and when all is done.
 use Rattle.std.proofs.Common.{◌≡◌, ℕ, suc, ◌+◌, ◌<◌, ◌≤◌, true, false, not, eqb, ◌↔◌, List, [], ◌∷◌, ◌++◌, map, length, sym, ap, ◌∙◌, subst, arith}
-use Rattle.std.specs.List.{AllByRecursion as All}
+use Rattle.std.specs.List.{AllByRecursion}
 use Rattle.std.proofs.lemmas.Nat.{mul-le}
 use Rattle.std.proofs.ByRecursion.{All-map, All-weaker}
 use Rattle.std.proofs.lemmas.List.{length-append, length-map}
@@ -78,7 +78,7 @@ released_few ds t m = front (released_first ds (places_of ds) (adds_of ds) (grou
     front (rest, e) = omega (arith, ap length e, length-append all rest)
 
 -- no block has more cells than a chunk
-radix_few : (g : Group) (ks : List ℕ) → All (λ k. 1 ≤ k) ks → product (radix g ks) ≤ product ks
+radix_few : (g : Group) (ks : List ℕ) → AllByRecursion (λ k. 1 ≤ k) ks → product (radix g ks) ≤ product ks
 radix_few [] [] p = omega arith
 radix_few [] (k ∷ ks) p = omega (arith, mul-le 1 1 k (product ks) p.0 (radix_few [] ks p.1))
 radix_few (b ∷ g) [] p = omega arith

@@ -1,6 +1,6 @@
 -- What a shape holds, dimension by dimension.
 use Rattle.std.proofs.Common.{◌≡◌, ℕ, zero, suc, ◌+◌, ◌/◌, ◌%◌, ◌^◌, ◌<◌, ◌≤◌, List, [], ◌∷◌, length, get_or, take, set, sym, refl, ap, ◌∙◌, subst, arith}
-use Rattle.std.specs.List.{AllByRecursion as All}
+use Rattle.std.specs.List.{AllByRecursion}
 use Rattle.std.proofs.lemmas.List.{length-take, get_or-take, get_or_default, get_or-map, take_all}
 use Rattle.std.proofs.ByRecursion.{All-from_get_or}
 use Rattle.shapes.specs.declared.dims.Dim.{Dim}
@@ -27,7 +27,7 @@ module _ (s : Shape) where
   pub dim_fits : (i : ℕ) → i < s.n → Fit (dim (dims_of s) i)
   dim_fits i h = subst Fit (dim_held i none_dim h) (s.each i h)
 
-  pub all_fit : All Fit (dims_of s)
+  pub all_fit : AllByRecursion Fit (dims_of s)
   all_fit = All-from_get_or Fit (dims_of s) none_dim (λ i h. dim_fits i (omega (arith, dims_long)))
 
   pub limits : Limits (dims_of s)

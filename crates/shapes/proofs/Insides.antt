@@ -1,6 +1,6 @@
 -- Digits that lie inside their radices, digit by digit, and filled up to six.
 use Rattle.std.proofs.Common.{◌≡◌, ℕ, zero, suc, ◌+◌, ◌-◌, ◌*◌, ◌<◌, ◌≤◌, true, false, ◌&&◌, eqb, ltb, List, [], ◌∷◌, ◌++◌, length, get_or, take, drop, replicate, Some, None, sym, refl, ap, ◌∙◌, arith}
-use Rattle.std.specs.List.{AllByRecursion as All}
+use Rattle.std.specs.List.{AllByRecursion}
 use Rattle.std.proofs.lemmas.List.{drop_more, take-append-drop, map-id}
 use Rattle.std.proofs.lemmas.Bool.{and_parts, eqb-true, ltb-true, cond-true, cond-false}
 use Rattle.std.proofs.lemmas.Bool.Decides.{nat_tests}
@@ -30,7 +30,7 @@ below_drop [] (x ∷ xs) (suc i) b = absurd b
 below_drop (k ∷ ks) [] (suc i) b = absurd b
 below_drop (k ∷ ks) (x ∷ xs) (suc i) b = below_drop ks xs i b.1
 
-below_positive : (ks xs : List ℕ) → Below ks xs → All (λ k. 1 ≤ k) ks
+below_positive : (ks xs : List ℕ) → Below ks xs → AllByRecursion (λ k. 1 ≤ k) ks
 below_positive [] [] b = tt
 below_positive [] (x ∷ xs) b = tt
 below_positive (k ∷ ks) [] b = absurd b

@@ -1,6 +1,6 @@
 -- What the check of a shape finds, and the limits that a shape keeps.
 use Rattle.std.proofs.Common.{◌≡◌, ℕ, ◌+◌, ◌^◌, ◌<◌, ◌≤◌, Bool, true, false, ◌||◌, ltb, ◌⊎◌, ◌↔◌, List, [], ◌∷◌, length, get_or, is_ok, Some, None, Ok, Err, Option, Result, sym, refl, ap, ◌∙◌, subst, ⊎_elim, arith, MatchResult}
-use Rattle.std.specs.List.{AllByRecursion as All}
+use Rattle.std.specs.List.{AllByRecursion}
 use Rattle.std.proofs.lemmas.Bool.Decides.{nat_tests}
 use Rattle.std.proofs.ByRecursion.{All-get_or}
 use Rattle.std.proofs.lemmas.List.{get_or_past}
@@ -22,11 +22,11 @@ pub both_none : {X : Type 0} (o p : Option X) → or_else o p ≡ None → (o �
 both_none (Some x) p h = (h, cc)
 both_none None p h = (refl, h)
 
-pub fits_from : (i : ℕ) (ds : List Dim) → dims_fault i ds ≡ None → All Fit ds
+pub fits_from : (i : ℕ) (ds : List Dim) → dims_fault i ds ≡ None → AllByRecursion Fit ds
 fits_from i [] h = tt
 fits_from i (d ∷ ds) h = let b = both_none (dim_fault i d) (dims_fault (i + 1) ds) h in (fit_from i d b.0, fits_from (i + 1) ds b.1)
 
-pub fits_fault : (i : ℕ) (ds : List Dim) → All Fit ds → dims_fault i ds ≡ None
+pub fits_fault : (i : ℕ) (ds : List Dim) → AllByRecursion Fit ds → dims_fault i ds ≡ None
 fits_fault i [] f = refl
 fits_fault i (d ∷ ds) f = ap (λ o. or_else o (dims_fault (i + 1) ds)) (fit_fault i d f.0) ∙ fits_fault (i + 1) ds f.1
 
@@ -89,5 +89,5 @@ accepts_limits ds told (Ok s) h = (λ _. limits_from ds h, λ _. refl)
 accepts_limits ds told (Err e) h = (λ p. absurd (let z : ◌≡◌ {A = ℕ} 0 1 = cc in omega arith), λ l. absurd (let q = limits_fault ds l in let z : ◌≡◌ {A = ℕ} 0 1 = cc in omega arith))
 
 -- a list of dimensions filled up to six fits in each place
-pub six_fits : (ds : List Dim) → All Fit ds → (i : ℕ) → i < 6 → Fit (get_or (six none_dim ds) i none_dim)
+pub six_fits : (ds : List Dim) → AllByRecursion Fit ds → (i : ℕ) → i < 6 → Fit (get_or (six none_dim ds) i none_dim)
 six_fits ds f i l = subst Fit (sym (six_at none_dim ds i l)) (⊎_elim (λ h. All-get_or Fit ds i none_dim h f) (λ h. subst Fit (sym (get_or_past ds i none_dim h)) (omega arith, omega arith, omega arith, omega arith, refl)) (cases_lt i (length ds)))

@@ -1,6 +1,6 @@
 -- The limits that a shape keeps, and the order in which a check finds them broken. Assumes nothing.
 use Rattle.std.specs.Prelude.{◌≡◌, ℕ, ◌+◌, ◌%◌, ◌^◌, ◌≤◌, Bool, cond, ◌||◌, List, [], ◌∷◌, length, Some, None, Option, nat_lt}
-use Rattle.std.specs.List.{AllByRecursion as All}
+use Rattle.std.specs.List.{AllByRecursion}
 use Rattle.shapes.specs.declared.dims.Dim.{Dim}
 use Rattle.shapes.specs.Arrays.{volume, extent}
 
@@ -12,7 +12,7 @@ Fit d = (1 ≤ d.size) × (d.size ≤ 16384) × (1 ≤ d.edge) × (d.edge ≤ d.
 pub record Limits (ds : List Dim) : Type 0 where
   pub some_dims : 1 ≤ length ds
   pub few_dims : length ds ≤ 6
-  pub each : All Fit ds
+  pub each : AllByRecursion Fit ds
   pub small_chunk : volume ds ≤ 16384
   pub small_array : extent ds ≤ 2 ^ 34
 

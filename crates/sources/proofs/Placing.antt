@@ -1,6 +1,6 @@
 -- The cell of a row: its chunk's storage number and its offset. Assumes nothing.
 use Rattle.std.proofs.Common.{◌≡◌, ℕ, zero, suc, ◌+◌, ◌*◌, ◌/◌, ◌<◌, ◌≤◌, true, false, ltb, List, [], ◌∷◌, ◌++◌, length, take, replicate, Some, None, Option, sym, refl, ap, ◌∙◌, ap₂, mod-lt, div-lt_iff_lt-mul, div-add-mod', arith}
-use Rattle.std.specs.List.{AllByRecursion as All}
+use Rattle.std.specs.List.{AllByRecursion}
 use Rattle.std.proofs.lemmas.List.{length-map}
 use Rattle.std.proofs.lemmas.Bool.{and_parts, and_from, ltb-true, lt-ltb, cond-true}
 use Rattle.shapes.specs.declared.dims.Dim.{Dim}
@@ -48,14 +48,14 @@ chunk_below x d fit h =
     let whole = div-add-mod' d.size d.edge in
     (div-lt_iff_lt-mul {k = d.edge} {x = x} {y = chunks d} fit.2).1 (omega arith)
 
-chunks_below : (ds : List Dim) (xs : List ℕ) → All Fit ds → inside (sizes ds) xs ≡ true → Below (counts ds) (chunk_of ds xs)
+chunks_below : (ds : List Dim) (xs : List ℕ) → AllByRecursion Fit ds → inside (sizes ds) xs ≡ true → Below (counts ds) (chunk_of ds xs)
 chunks_below [] xs fit h = tt
 chunks_below (d ∷ ds) [] fit h = never h
 chunks_below (d ∷ ds) (x ∷ xs) fit h =
     let b = and_parts (ltb x d.size) (inside (sizes ds) xs) h in
     (chunk_below x d fit.0 (ltb-true x d.size b.0), chunks_below ds xs fit.1 b.1)
 
-locals_below : (ds : List Dim) (xs : List ℕ) → All Fit ds → inside (sizes ds) xs ≡ true → Below (edges ds) (local_of ds xs)
+locals_below : (ds : List Dim) (xs : List ℕ) → AllByRecursion Fit ds → inside (sizes ds) xs ≡ true → Below (edges ds) (local_of ds xs)
 locals_below [] xs fit h = tt
 locals_below (d ∷ ds) [] fit h = never h
 locals_below (d ∷ ds) (x ∷ xs) fit h =

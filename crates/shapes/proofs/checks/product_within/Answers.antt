@@ -1,5 +1,5 @@
 use Rattle.std.proofs.Common.{◌≡◌, ℕ, ◌+◌, ◌*◌, ◌≤◌, length, get_or, take, sym, ap, ◌∙◌, arith}
-use Rattle.std.specs.List.{AllByRecursion as All}
+use Rattle.std.specs.List.{AllByRecursion}
 use Rattle.std.proofs.lemmas.List.{take_all}
 use Rattle.std.proofs.ByRecursion.{All-from_get_or}
 use Rattle.shapes.specs.Arrays.{product}
@@ -11,7 +11,7 @@ returns-then-p-limit c =
     let xs = c.args.factors in
     let i = c.loop-i.i in
     let six_long : length xs ≡ 6 = omega arith in
-    let positive : All (λ (x : ℕ). 1 ≤ x) xs = All-from_get_or (λ (x : ℕ). 1 ≤ x) xs 0 (λ k h. (c.requires.each k (omega arith)).0) in
+    let positive : AllByRecursion (λ (x : ℕ). 1 ≤ x) xs = All-from_get_or (λ (x : ℕ). 1 ≤ x) xs 0 (λ k h. (c.requires.each k (omega arith)).0) in
     let e : c.loop-i.p * get_or xs i 0 ≡ product (take (i + 1) xs) = ap (λ p. p * get_or xs i 0) c.loop-i.invariant.0 ∙ sym (product_take_more xs i 0 (omega arith)) in
     omega (arith, e, product_take_le xs (i + 1) positive)
 
