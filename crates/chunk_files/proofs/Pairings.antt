@@ -10,7 +10,7 @@ use Rattle.sources.proofs.Lifting.{reading_some}
 use Rattle.chunk_files.specs.Layouts.{half, word}
 use Rattle.chunk_files.specs.Bodies.{Fault, Pair, pair_at, pairs_in, held, pair_fault, pairs_fault, sparse_cells}
 use Rattle.chunk_files.specs.Contents.{lift_or, cell_value}
-use Rattle.chunk_files.proofs.Parts.{map-map}
+use mathlib.Core.List.{map-map}
 
 or_else_none : {X : Type 0} (o : Option X) → or_else o None ≡ o
 or_else_none (Some x) = refl

@@ -1,5 +1,5 @@
 -- Parts of bytes whose bounds stop at the end, and lists by index.
-use Rattle.std.proofs.Common.{◌≡◌, ℕ, ◌-◌, ◌<◌, ◌≤◌, min, List, [], ◌∷◌, map, length, take, drop, sym, refl, ap, ◌∙◌, ⊎_elim, arith}
+use Rattle.std.proofs.Common.{◌≡◌, ℕ, ◌-◌, ◌<◌, ◌≤◌, min, List, length, take, drop, sym, ap, ◌∙◌, ⊎_elim, arith}
 use Rattle.std.proofs.lemmas.List.{take_rest, take_all, drop_all}
 use Rattle.std.proofs.lemmas.Bool.{cases_lt}
 
@@ -15,7 +15,3 @@ take_within xs n m e =
 pub part_within : {X : Type 0} (xs : List X) (start n from long : ℕ) → from ≡ min (length xs) start → long ≡ min (length (take (length xs - from) (drop from xs))) n
     → take long (take (length xs - from) (drop from xs)) ≡ take n (drop start xs)
 part_within xs start n from long p q = take_within (take (length xs - from) (drop from xs)) n long q ∙ ap (take n) (take_rest xs from ∙ drop_within xs start from p)
-
-pub map-map : {X Y Z : Type 0} (g : Y → Z) (f : X → Y) (xs : List X) → map g (map f xs) ≡ map (λ x. g (f x)) xs
-map-map g f [] = refl
-map-map g f (x ∷ xs) = ap (λ zs. g (f x) ∷ zs) (map-map g f xs)

@@ -11,7 +11,7 @@ use Rattle.sources.proofs.Lifting.{reading_some}
 use Rattle.chunk_files.specs.Layouts.{word}
 use Rattle.chunk_files.specs.Bodies.{Fault, fault_if, words_in, word_cell, word_fits, words_fault, filled, dense_cells, dense_fault}
 use Rattle.chunk_files.specs.Contents.{lift_or, cell_value}
-use Rattle.chunk_files.proofs.Parts.{map-map}
+use mathlib.Core.List.{map-map}
 
 -- the reading of a word
 abbrev pub number_of : Option Reading → Option ℕ

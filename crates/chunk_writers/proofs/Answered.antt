@@ -15,9 +15,10 @@ use Rattle.chunk_writers.specs.declared.refusals.WriteRefusal.TheVariants.{Twice
 use Rattle.chunk_writers.specs.Keys.{row_at, InRange, all_keys, Ordered, Keyed, Repeated}
 use Rattle.chunk_writers.specs.Written.{put, file_bytes, entries_of, in_chunks}
 use Rattle.chunk_writers.specs.Answers.{first_twice, room_answer, twice_answer, range_answer, write_answer, rows_checked}
-use Rattle.chunk_writers.proofs.Filed.{length_header, length_directory, length_file, all_bodies}
+use Rattle.chunk_writers.proofs.Filed.{length_directory, length_file, all_bodies}
 use Rattle.chunk_writers.proofs.Putting.{put_then}
 use Rattle.chunk_writers.proofs.Twice.{no_twice, one_twice, keyed}
+use Rattle.chunk_files.proofs.Formed.{length_header}
 
 pub room_granted : (n room : ℕ) → room_answer n room ≡ Ok n → (n ≤ 4294967295) × (n ≤ room)
 room_granted n room h = (grind (arith, nat_tests), grind (arith, nat_tests))

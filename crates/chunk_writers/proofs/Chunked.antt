@@ -1,11 +1,11 @@
 -- The keys of a chunk, and its cells. Assumes nothing.
-use Rattle.std.proofs.Common.{◌≡◌, ℕ, ◌+◌, ◌-◌, ◌/◌, ◌<◌, ◌≤◌, true, false, cond, ◌&&◌, eqb, ltb, ◌⊎◌, List, [], ◌∷◌, map, length, get_or, Some, None, sym, ap, ◌∙◌, subst, inl, inr, mod-lt, div-lt_iff_lt-mul, div-add-mod', arith}
+use Rattle.std.proofs.Common.{◌≡◌, ℕ, ◌+◌, ◌-◌, ◌<◌, ◌≤◌, true, false, cond, ◌&&◌, eqb, ltb, ◌⊎◌, List, [], ◌∷◌, map, length, get_or, Some, None, sym, ap, ◌∙◌, subst, inl, inr, mod-lt, arith}
 use Rattle.std.specs.List.{range_with_len, flat_map, between, AllByRecursion}
 use Rattle.std.proofs.lemmas.List.Edits.{length-between, get_or-between}
 use Rattle.std.proofs.lemmas.List.{length-map, get_or-map}
 use Rattle.std.proofs.lemmas.Bool.{and_parts, and_from, ltb-true, eq-eqb, eqb-true, cases_lt}
 use Rattle.shapes.specs.declared.dims.Dim.{Dim}
-use Rattle.shapes.specs.Arrays.{chunks, sizes, counts, edges, inside, Below as Digits, chunk_of, local_of, storage, offset, volume, total_chunks}
+use Rattle.shapes.specs.Arrays.{sizes, counts, edges, inside, Below as Digits, chunk_of, local_of, storage, offset, volume, total_chunks}
 use Rattle.shapes.specs.Limits.{Fit}
 use Rattle.shapes.proofs.Numbering.{number_below}
 use Rattle.sources.specs.declared.rows.Row.{Row}
@@ -17,15 +17,10 @@ use Rattle.chunk_writers.specs.Keys.{none_key, row_at, key_of, pair_of, Keyed, C
 use Rattle.chunk_writers.specs.Segments.{Climb}
 use Rattle.chunk_writers.specs.Written.{pairs_of, in_cell, in_chunk, dense, body_bytes}
 use Rattle.chunk_writers.proofs.Pairing.{held_cases, first_cases, climb_from, pairs_held, length_pairs_of, map_counting_same}
+use Rattle.sources.proofs.Placing.{chunk_below}
 
 never : {A : Type 0} → false ≡ true → A
 never e = let z : ◌≡◌ {A = ℕ} 0 1 = cc in absurd (omega arith)
-
-chunk_below : (x : ℕ) (d : Dim) → Fit d → x < d.size → x / d.edge < chunks d
-chunk_below x d fit h =
-    let even = fit.4 in
-    let whole = div-add-mod' d.size d.edge in
-    (div-lt_iff_lt-mul {k = d.edge} {x = x} {y = chunks d} fit.2).1 (omega arith)
 
 chunks_below : (ds : List Dim) (xs : List ℕ) → AllByRecursion Fit ds → inside (sizes ds) xs ≡ true → Digits (counts ds) (chunk_of ds xs)
 chunks_below [] xs fit h = tt

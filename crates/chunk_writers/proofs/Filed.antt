@@ -10,13 +10,14 @@ use Rattle.shapes.specs.declared.dims.Dim.{Dim}
 use Rattle.shapes.specs.Arrays.{volume, total_chunks}
 use Rattle.shapes.specs.Limits.{Fit}
 use Rattle.sources.specs.declared.rows.Row.{Row}
-use Rattle.chunk_files.specs.Layouts.{dim_bytes, header_bytes, entry_bytes, directory_at, bodies_at}
+use Rattle.chunk_files.specs.Layouts.{header_bytes, entry_bytes, bodies_at}
 use Rattle.chunk_files.specs.Bodies.{Pair, pair_bytes, cell_bytes, held}
 use Rattle.chunk_writers.specs.declared.keys.Key.{Key}
 use Rattle.chunk_writers.specs.Keys.{none_key, pair_of, Keyed, Cut, Rising}
 use Rattle.chunk_writers.specs.Segments.{Kept}
 use Rattle.chunk_writers.specs.Written.{dense, body_bytes, body_size, made_entry, entries_of, bodies_of, file_bytes, in_cell, in_chunk, in_chunks}
 use Rattle.chunk_writers.proofs.Chunked.{key_below, length_segment, chunk_filled, chunk_body}
+use Rattle.chunk_files.proofs.Formed.{length_header}
 
 pub length_joined : {X : Type 0} (f : X → List ℕ) (w : ℕ) → ((x : X) → length (f x) ≡ w) → (xs : List X) → length (flat_map f xs) ≡ w * length xs
 length_joined f w wide [] = omega arith
@@ -25,9 +26,6 @@ length_joined f w wide (x ∷ xs) = let a = length-append (f x) (flat_map f xs) 
 pub length_entries_of : (v at : ℕ) (css : List (List (Option ℕ))) → length (entries_of v at css) ≡ length css
 length_entries_of v at [] = refl
 length_entries_of v at (cs ∷ css) = ap suc (length_entries_of v (at + length (body_bytes v cs)) css)
-
-pub length_header : (ds : List Dim) → length (header_bytes ds) ≡ directory_at ds
-length_header ds = let a = length_joined dim_bytes 8 (λ d. refl) ds in omega arith
 
 pub length_directory : (ds : List Dim) (css : List (List (Option ℕ))) → length css ≡ total_chunks ds → length (flat_map entry_bytes (entries_of (volume ds) (bodies_at ds) css)) ≡ 8 * total_chunks ds
 length_directory ds css e = let a = length_joined entry_bytes 8 (λ x. refl) (entries_of (volume ds) (bodies_at ds) css) in let b = length_entries_of (volume ds) (bodies_at ds) css in omega arith

@@ -19,10 +19,7 @@ use Rattle.chunk_writers.specs.Trips.{ReadBack, WrittenOf, file_meaning, rows_me
 use Rattle.chunk_writers.proofs.Chunked.{cell_of_row}
 use Rattle.chunk_writers.proofs.Pairing.{map_counting_same}
 use Rattle.chunk_writers.proofs.Returned.{write_granted, granted_back}
-
-map-map : {X Y Z : Type 0} (g : Y → Z) (f : X → Y) (xs : List X) → map g (map f xs) ≡ map (λ x. g (f x)) xs
-map-map g f [] = refl
-map-map g f (x ∷ xs) = ap (λ ys. g (f x) ∷ ys) (map-map g f xs)
+use mathlib.Core.List.{map-map}
 
 none_first : (rs : List Row) → is_some (first_of (map (λ (r : Row). r.reading) rs)) ≡ false → length rs ≡ 0
 none_first [] h = refl

@@ -70,6 +70,27 @@ fn a_full_chunk_has_words(rt: HostRuntime) -> Result<(), Fail> {
     Ok(())
 }
 
+// More rows than a sort puts in place one by one.
+#[test]
+fn many_rows_in_falling_order(rt: HostRuntime) -> Result<(), Fail> {
+    let dims = [cut(64, 64)];
+    let mut rows = [row(0, 0, 0); 64];
+    for i in 0..64 {
+        rows[i] = row(63 - i as u32, 0, i as u32);
+    }
+    let mut out = [9; 276];
+    assert_eq!(rt; answer(rt.alloc(), &dims, &rows, &mut out)?, Ok(276));
+    assert!(rt; out[12..20] == [20, 0, 0, 0, 64, 0, 1, 0]);
+    assert!(rt; out[20..28] == [63, 0, 0, 0, 62, 0, 0, 0]);
+    assert!(rt; out[268..276] == [1, 0, 0, 0, 0, 0, 0, 0]);
+    rows[40] = rows[8];
+    assert_eq!(rt;
+        answer(rt.alloc(), &dims, &rows, &mut out)?,
+        Err(WriteRefusal::Twice(40))
+    );
+    Ok(())
+}
+
 #[test]
 fn refusals_leave_the_buffer(rt: HostRuntime) -> Result<(), Fail> {
     let dims = [cut(4, 2), cut(2, 2)];

@@ -14,14 +14,10 @@ use Rattle.cubes.proofs.Cells.{length-radix, radix_positive}
 use Rattle.cubes.proofs.ScanNumbers.{low_part, low_full, full_low, low_of_digits, scan_digits_within, scan_of_digits, width_positive}
 use Rattle.cubes.proofs.RegionSteps.{below_dropped, full_from_highest, highest_from_full}
 use Rattle.cubes.proofs.Ranks.{region_rank, rank_region, region_count}
-use Rattle.cubes.proofs.Listing.{all_counting, kept_like, kept_map, kept_quotient}
+use Rattle.cubes.proofs.Listing.{kept_like, kept_map, kept_quotient}
 use Rattle.cubes.proofs.Machine.{last_of}
-
--- tests that tell the same
-pub same_bool : (a b : Bool) → (a ≡ true → b ≡ true) → (b ≡ true → a ≡ true) → a ≡ b
-same_bool true b f g = sym (f refl)
-same_bool false true f g = g refl
-same_bool false false f g = refl
+use Rattle.plans.proofs.Sums.{all_counting}
+use Rattle.std.specs.Cmp.{both_ways as same_bool}
 
 pub each_below_holds : (n : ℕ) (test : ℕ → Bool) → each_below n test ≡ true → (i : ℕ) → i < n → test i ≡ true
 each_below_holds zero test t i l = absurd (omega arith)

@@ -9,11 +9,13 @@ use Rattle.shapes.specs.Arrays.{Group, product, radix, counts, mask, group, grou
 use Rattle.cubes.specs.Handing.{Scan, same_group, lacks, parent, child, handing}
 use Rattle.cubes.specs.Control.{Table, tree, one_more, first, next_from, Reached, start, pass, hand, numbered_block, MachineLaws}
 use Rattle.cubes.specs.Progress.{table_of, group_at, Progress, ProgressLaws, MaskTree, FirstByMask}
-use Rattle.cubes.proofs.Listing.{all_counting, counting_append}
+use Rattle.cubes.proofs.Listing.{counting_append}
 use Rattle.cubes.proofs.Machine.{same_group_refl, same_group_ne, cases_group, one_more_same, one_more_other, first_none, first_some}
 use Rattle.cubes.proofs.Trees.{root_keeps, is_child}
-use Rattle.cubes.proofs.Groups.{root_of, not_root_of, length-group, mask-group, mask_back, mask_within, mask_root, mask-set}
+use Rattle.cubes.proofs.Groups.{root_of, not_root_of, mask_back, mask_within, mask_root, mask-set}
 use Rattle.cubes.proofs.MachineLaws.{machine_laws}
+use Rattle.plans.proofs.Sums.{all_counting}
+use Rattle.shapes.proofs.Masks.{length-group, mask-group}
 
 -- one more of a group in a table from counts by mask
 pub table_more : (n : ℕ) (cs : List ℕ) (m : ℕ) → m < 2 ^ n → length cs ≡ 2 ^ n → (h : Group) → length h ≡ n

@@ -1,9 +1,9 @@
 -- Groups and their masks: each group of n dimensions has its mask, and with any choice of parents all of them are the groups of a scan.
-use Rattle.std.proofs.Common.{◌≡◌, ℕ, zero, suc, ◌+◌, ◌-◌, ◌*◌, ◌/◌, ◌%◌, ◌^◌, ◌<◌, ◌≤◌, true, false, List, [], ◌∷◌, length, get_or, set, sym, refl, ap, ◌∙◌, subst, ⊎_elim, arith}
+use Rattle.std.proofs.Common.{◌≡◌, ℕ, zero, suc, ◌+◌, ◌-◌, ◌*◌, ◌%◌, ◌^◌, ◌<◌, ◌≤◌, true, false, List, [], ◌∷◌, length, get_or, set, sym, refl, ap, ◌∙◌, subst, ⊎_elim, arith}
 use Rattle.std.specs.List.{range_with_len, ContainsAt as Has, AllByRecursion}
 use Rattle.std.proofs.ByRecursion.{All-map, All-get_or, all-has, All-weaker}
 use Rattle.std.proofs.lemmas.List.{length-replicate, length-set}
-use Rattle.std.proofs.lemmas.Bool.{eq-eqb, ne_eqb, cases_eq, true≢false}
+use Rattle.std.proofs.lemmas.Bool.{cases_eq, true≢false}
 use Rattle.std.proofs.lemmas.List.FromFn.{length-map-range_with_len, get_or-map-range_with_len}
 use Rattle.shapes.specs.declared.dims.Dim.{Dim}
 use Rattle.shapes.specs.Arrays.{Group, mask, group, groups, root}
@@ -11,37 +11,14 @@ use Rattle.plans.specs.Plans.{Edged, Lacks, others, Order, Parents, Least, plan_
 use Rattle.shapes.specs.Limits.{Fit, Limits}
 use Rattle.cubes.specs.Summaries.{Divided}
 use Rattle.cubes.specs.Handing.{Distinct, lacks, parent, Grouped, Scan}
-use Rattle.cubes.proofs.Listing.{all_always, all_counting, distinct_map, distinct_counting}
-
-pub length-group : (n m : ℕ) → length (group n m) ≡ n
-length-group zero m = refl
-length-group (suc n) m = ap suc (length-group n (m / 2))
+use Rattle.cubes.proofs.Listing.{all_always, distinct_map, distinct_counting}
+use Rattle.plans.proofs.Sums.{all_counting}
+use Rattle.shapes.proofs.Masks.{length-group, mask-group, group-mask}
 
 pub mask_below : (g : Group) → mask g < 2 ^ length g
 mask_below [] = omega arith
 mask_below (true ∷ g) = let e : 2 ^ suc (length g) ≡ 2 * 2 ^ length g = omega arith in omega (arith, mask_below g)
 mask_below (false ∷ g) = let e : 2 ^ suc (length g) ≡ 2 * 2 ^ length g = omega arith in omega (arith, mask_below g)
-
-pub group-mask : (g : Group) → group (length g) (mask g) ≡ g
-group-mask [] = refl
-group-mask (true ∷ g) =
-    ap (λ b. b ∷ group (length g) ((1 + 2 * mask g) / 2)) (eq-eqb ((1 + 2 * mask g) % 2) 1 (omega arith))
-    ∙ ap (λ h. true ∷ h) (ap (group (length g)) half ∙ group-mask g)
-  where
-    half : (1 + 2 * mask g) / 2 ≡ mask g
-    half = omega arith
-group-mask (false ∷ g) =
-    ap (λ b. b ∷ group (length g) ((0 + 2 * mask g) / 2)) (ne_eqb ((0 + 2 * mask g) % 2) 1 (λ e. omega arith))
-    ∙ ap (λ h. false ∷ h) (ap (group (length g)) half ∙ group-mask g)
-  where
-    half : (0 + 2 * mask g) / 2 ≡ mask g
-    half = omega arith
-
-pub mask-group : (n m : ℕ) → m < 2 ^ n → mask (group n m) ≡ m
-mask-group zero m l = omega arith
-mask-group (suc n) m l = ⊎_elim
-    (λ e. rw (eq-eqb (m % 2) 1 e) (omega (arith, mask-group n (m / 2) (omega arith))))
-    (λ e. rw (ne_eqb (m % 2) 1 e) (omega (arith, mask-group n (m / 2) (omega arith)))) (cases_eq (m % 2) 1)
 
 -- a group of n dimensions by its mask
 pub mask_back : (n : ℕ) (h : Group) → length h ≡ n → group n (mask h) ≡ h

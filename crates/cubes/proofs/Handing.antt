@@ -13,11 +13,12 @@ use Rattle.cubes.specs.Scans.{scan_digits}
 use Rattle.cubes.specs.Handing.{Block, Distinct, Scan, block_count, blocks, blocks_of, child, children, completes, handing, of_group, parent, region, release, release_of, released_by, same_group, tally}
 use Rattle.cubes.specs.Control.{Numbered, Table, WithinDue, due_by, numbered_block, tree}
 use Rattle.cubes.proofs.Completions.{all_due}
-use Rattle.cubes.proofs.Listing.{all_always, all_cond, all_counting, all_from_kept, all_joined, counting_append, distinct_cond, distinct_counting, distinct_map, joined_append, joined_like, joined_same, kept_map}
+use Rattle.cubes.proofs.Listing.{all_always, all_cond, all_from_kept, all_joined, counting_append, distinct_cond, distinct_counting, distinct_map, joined_append, joined_like, joined_same, kept_map}
 use Rattle.cubes.proofs.Machine.{Settled, Under, release_numbers, same_group_refl}
 use Rattle.cubes.proofs.States.{due_by_is, is_of, numbered, numbered_by, state_all, state_front, state_none}
 use Rattle.cubes.proofs.Totals.{counts_once, every_group, every_group_are, every_group_once, sum_over, sum_over_is, sum_over_like, tally_total, total_products}
 use Rattle.cubes.proofs.Trees.{ChildOf, children_are, inside, is_child, lacks_keeps, laws, level, level_le, level_root, level_set, placed, radix_root_counts, release_is, scan_digits_same, sized}
+use Rattle.plans.proofs.Sums.{all_counting}
 
 -- what the first chunks release comes first
 pub released_first : (ds : List Dim) (place : ℕ → ℕ) (adds : Group → ℕ) (all : List Group) (t : ℕ) → t ≤ total_chunks ds → (rest : List Block)

@@ -6,15 +6,12 @@ use Rattle.std.proofs.lemmas.Bool.{cases_eq, eq-eqb, ne_eqb}
 use Rattle.shapes.specs.Arrays.{product, digits, all_digits, Below}
 use Rattle.measures.specs.Laws.{Lawful, total}
 use Rattle.cubes.specs.Summaries.{big}
+use mathlib.Core.List.{map-map}
 
 -- the join of f over all digit lists below the radices
 abbrev pub nest : {M : Type 0} → M → (M → M → M) → List ℕ → (List ℕ → M) → M
 nest empty join [] f = f []
 nest empty join (k ∷ ks) f = big empty join (λ v. nest empty join ks (λ ys. f (v ∷ ys))) k
-
-map-map : {X Y Z : Type 0} (f : Y → Z) (g : X → Y) (xs : List X) → map f (map g xs) ≡ map (λ x. f (g x)) xs
-map-map f g [] = refl
-map-map f g (x ∷ xs) = ap (λ z. f (g x) ∷ z) (map-map f g xs)
 
 module _ {M : Type 0} (empty : M) (join : M → M → M) (laws : Lawful empty join) where
   pub join_empty : (a : M) → join a empty ≡ a

@@ -8,6 +8,7 @@ use Rattle.std.proofs.lemmas.List.{map-append, append-nil}
 use Rattle.std.proofs.lemmas.Bool.{eq-eqb, ne_eqb}
 use Rattle.std.proofs.lemmas.List.FromFn.{map-range_with_len_more}
 use Rattle.cubes.specs.Handing.{Distinct}
+use Rattle.plans.proofs.Sums.{all_counting}
 
 pub all_front : {X : Type 0} (P : X → Type 0) (xs ys : List X) → AllByRecursion P (xs ++ ys) → AllByRecursion P xs
 all_front P [] ys a = tt
@@ -36,10 +37,6 @@ all_cond P false xs a = tt
 pub all_joined : {X Y : Type 0} (P : Y → Type 0) (f : X → List Y) (xs : List X) → AllByRecursion (λ x. AllByRecursion P (f x)) xs → AllByRecursion P (flat_map f xs)
 all_joined P f [] a = tt
 all_joined P f (x ∷ xs) a = All-append P (f x) (flat_map f xs) a.0 (all_joined P f xs a.1)
-
-pub all_counting : (P : ℕ → Type 0) (a n : ℕ) → ((u : ℕ) → a ≤ u → u < a + n → P u) → AllByRecursion P (range_with_len a n)
-all_counting P a zero f = tt
-all_counting P a (suc n) f = (f a (omega arith) (omega arith), all_counting P (a + 1) n (λ u l m. f u (omega arith) (omega arith)))
 
 pub all_from_kept : {X : Type 0} (p : X → Bool) (P : X → Type 0) → ((x : X) → p x ≡ false → P x) → (xs : List X) → AllByRecursion P (filter p xs) → AllByRecursion P xs
 all_from_kept p P f [] a = tt

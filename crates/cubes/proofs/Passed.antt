@@ -15,12 +15,13 @@ use Rattle.cubes.proofs.Cells.{below_cleared, cleared_below, cleared_from_agrees
 use Rattle.cubes.proofs.ScanNumbers.{scan_of_digits}
 use Rattle.cubes.proofs.RegionSteps.{getD_cleared}
 use Rattle.cubes.proofs.Ranks.{region_rank}
-use Rattle.cubes.proofs.Listing.{all_both, all_counting, all_unmap}
+use Rattle.cubes.proofs.Listing.{all_both, all_unmap}
 use Rattle.cubes.proofs.Machine.{Settled, Under, same_group_refl}
 use Rattle.cubes.proofs.States.{is_of, numbered, numbered_by, state_all, state_none}
 use Rattle.cubes.proofs.Trees.{ChildOf, level, laws, sized, inside, lacks_keeps, radix_root_counts}
 use Rattle.cubes.proofs.Naming.{block_within}
 use Rattle.cubes.proofs.Handing.{released_is, released_of_groups, under_root, counts_le}
+use Rattle.plans.proofs.Sums.{all_counting}
 
 cleared_root : (n : ℕ) (c : List ℕ) → length c ≡ n → cleared (root n) c ≡ c
 cleared_root zero [] l = refl

@@ -8,9 +8,10 @@ use Rattle.cubes.specs.Handing.{Scan, release_of, released, handing, tally}
 use Rattle.cubes.specs.Control.{Numbered, Table, tree, one_more, next_from, Reached, start, pass, hand, MachineLaws}
 use Rattle.cubes.specs.Progress.{table_of, group_at, Progress, IsNext, Counted, MaskWithin, ProgressIsCounted}
 use Rattle.cubes.proofs.Listing.{counting_suc, joined_append}
-use Rattle.cubes.proofs.Groups.{length-group, mask-group, mask_back, mask_within}
+use Rattle.cubes.proofs.Groups.{mask_back, mask_within}
 use Rattle.cubes.proofs.MachineLaws.{machine_laws}
 use Rattle.cubes.proofs.Counting.{progress_laws}
+use Rattle.shapes.proofs.Masks.{length-group, mask-group}
 
 -- a chunk more releases no less
 pub released_rising : (ds : List Dim) (place : ℕ → ℕ) (adds : Group → ℕ) (all : List Group) (t : ℕ)

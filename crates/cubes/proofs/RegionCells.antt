@@ -16,16 +16,17 @@ use Rattle.cubes.proofs.Joins.{big_cong, big_join, big_first, total_counting}
 use Rattle.cubes.proofs.Summaries.{divided_at}
 use Rattle.cubes.proofs.ScanNumbers.{products, width_hit}
 use Rattle.cubes.proofs.RegionSteps.{getD_radix_any}
-use Rattle.cubes.proofs.Listing.{all_counting}
 use Rattle.cubes.proofs.Completions.{region_is}
-use Rattle.cubes.proofs.Groups.{lattice_scan, groups_have, length-group, not_root_of}
+use Rattle.cubes.proofs.Groups.{lattice_scan, groups_have, not_root_of}
 use Rattle.cubes.proofs.Trees.{ChildOf, is_child, sized, inside, lacks_keeps}
+use Rattle.plans.proofs.Sums.{all_counting}
+use Rattle.shapes.proofs.Masks.{length-group}
 
-product_total : (ks : List ℕ) → product ks ≡ total 1 ◌*◌ ks
+pub product_total : (ks : List ℕ) → product ks ≡ total 1 ◌*◌ ks
 product_total [] = refl
 product_total (k ∷ ks) = ap (λ z. k * z) (product_total ks)
 
-product_counting : (f : ℕ → ℕ) (n : ℕ) → product (map f (range_with_len 0 n)) ≡ big 1 ◌*◌ f n
+pub product_counting : (f : ℕ → ℕ) (n : ℕ) → product (map f (range_with_len 0 n)) ≡ big 1 ◌*◌ f n
 product_counting f n = product_total (map f (range_with_len 0 n)) ∙ total_counting 1 ◌*◌ products f 0 n
     ∙ big_cong 1 ◌*◌ products (λ i. f (0 + i)) f n (λ i l. ap f (zero-add i))
 

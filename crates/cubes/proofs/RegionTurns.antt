@@ -22,7 +22,7 @@ abbrev none_block : Block
 none_block = record { of = []; at = [] }
 
 -- the group of no block stands below nothing
-nothing_below : (adds : Group → ℕ) (f : ℕ) (h : Group) → stands_below adds f [] h ≡ false
+pub nothing_below : (adds : Group → ℕ) (f : ℕ) (h : Group) → stands_below adds f [] h ≡ false
 nothing_below adds zero h = refl
 nothing_below adds (suc f) h = refl
 

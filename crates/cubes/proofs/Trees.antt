@@ -14,7 +14,8 @@ use Rattle.cubes.proofs.Cells.{length-radix}
 use Rattle.cubes.proofs.ScanNumbers.{scan_of_digits}
 use Rattle.cubes.proofs.Machine.{same_group_true, same_group_refl, same_group_ne, cases_group, TreeLaws, Under, release_numbers, child_part, due_from}
 use Rattle.cubes.proofs.Completions.{period_positive, share_positive, completes_is, region_is, region_within}
-use Rattle.cubes.proofs.Listing.{all_both, all_counting, distinct_kept, joined_like, joined_map_like, has_kept}
+use Rattle.cubes.proofs.Listing.{all_both, distinct_kept, joined_like, joined_map_like, has_kept}
+use Rattle.plans.proofs.Sums.{all_counting}
 
 -- a group that has a parent in the scan
 abbrev pub ChildOf : (Group → ℕ) → List Group → Group → Type 0

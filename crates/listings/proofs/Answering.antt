@@ -1,9 +1,9 @@
 -- The listing of a file that is refused, and of one that is not.
-use Rattle.std.proofs.Common.{◌≡◌, ℕ, ◌≤◌, Bool, true, false, ltb, List, [], ◌∷◌, get_or, Some, None, Option, refl, ap₂, arith}
+use Rattle.std.proofs.Common.{◌≡◌, ℕ, ◌≤◌, ltb, List, [], ◌∷◌, get_or, Some, None, Option, refl, ap₂}
 use Rattle.std.proofs.lemmas.Bool.{ltb-false}
 use Rattle.shapes.specs.declared.dims.Dim.{Dim}
 use Rattle.shapes.specs.declared.readings.Reading.{Reading}
-use Rattle.shapes.specs.Limits.{Refusal, or_else, refused_if}
+use Rattle.shapes.specs.Limits.{Refusal, or_else}
 use Rattle.plans.specs.Plans.{plan_need}
 use Rattle.plans.specs.Refusals.{check_fault}
 use Rattle.chunk_files.specs.Layouts.{file_fault, file_dims}
@@ -12,6 +12,7 @@ use Rattle.cubes.specs.Meanings.{meaning}
 use Rattle.runs.specs.Planned.{need_of}
 use Rattle.listings.specs.Lines.{refused_lines}
 use Rattle.listings.specs.Listings.{given_cells, unless_refused, summary_lines, file_listing}
+use Rattle.shapes.proofs.Limited.{off_by}
 
 module _ {M : Type 0} (empty : M) (op : M → M → M) (lifted : Reading → M) (columns : M → List ℕ) (bs : List ℕ) where
   answered : (o p : Option Refusal) → file_fault bs ≡ o → check_fault given_cells (need_of (file_dims bs)) ≡ p
@@ -34,9 +35,5 @@ pub need_planned : (ds : List Dim) → plan_need ds ≡ need_of ds
 unfolding need_of
 need_planned ds = refl
 
-within_by : (t : Bool) (r : Refusal) → refused_if t r ≡ None → t ≡ false
-within_by true r h = let z : ◌≡◌ {A = ℕ} 0 1 = cc in absurd (omega arith)
-within_by false r h = refl
-
 pub check_passed : (given needed : ℕ) → check_fault given needed ≡ None → needed ≤ given
-check_passed given needed h = ltb-false given needed (within_by (ltb given needed) (17, needed ∷ []) h)
+check_passed given needed h = ltb-false given needed (off_by (ltb given needed) (17, needed ∷ []) h)

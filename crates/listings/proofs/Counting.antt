@@ -1,9 +1,8 @@
 -- How many chunks pass a test.
 use Rattle.std.proofs.Common.{◌≡◌, ℕ, zero, suc, ◌+◌, ◌<◌, ◌≤◌, Bool, cond, not, is_err, count_by, sym, refl, ap, ◌∙◌, ap₂, add-one, arith}
 use Rattle.std.specs.List.{range_with_len}
-use Rattle.std.proofs.lemmas.List.FromFn.{length-range_with_len, sum_by-map-range_with_len_more}
+use Rattle.std.proofs.lemmas.List.FromFn.{length-range_with_len}
 use Rattle.std.proofs.lemmas.List.Filters.{length-filter_both}
-use Rattle.std.proofs.lemmas.List.{map-id}
 use Rattle.std.proofs.lemmas.List.Sums.{count_by-le-length, length-filter}
 use Rattle.shapes.specs.Arrays.{volume, total_chunks}
 use Rattle.sources.specs.Meanings.{Chunk, values, faulty, Meaning, read_answer, fetch_answer}
@@ -11,11 +10,7 @@ use Rattle.sources.proofs.Alikes.{full_answer}
 use Rattle.cubes.specs.Meanings.{is_readable}
 use Rattle.runs.specs.Surveys.{unreadable_chunks}
 use Rattle.listings.specs.Making.{unfetched_count}
-
-pub count_more : (test : ℕ → Bool) (n : ℕ) → count_by test (range_with_len 0 (n + 1)) ≡ count_by test (range_with_len 0 n) + cond (test n) 1 0
-count_more test n =
-    ap (count_by test) (sym (map-id (range_with_len 0 (n + 1))))
-    ∙ (sum_by-map-range_with_len_more (λ k. cond (test k) 1 0) (λ k. k) 0 n n (omega arith) ∙ ap (λ ks. count_by test ks + cond (test n) 1 0) (map-id (range_with_len 0 n)))
+use Rattle.runs.proofs.LivingChunks.{count_more}
 
 -- a counter that goes up where the test holds
 pub counted_more : (test : ℕ → Bool) (n count after : ℕ) (t : Bool) → count ≡ count_by test (range_with_len 0 n) → test n ≡ t → after ≡ count + cond t 1 0 → after ≡ count_by test (range_with_len 0 (n + 1))

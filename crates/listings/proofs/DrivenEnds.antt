@@ -1,5 +1,5 @@
 -- A driven run at its end, and the whole listing.
-use Rattle.std.proofs.Common.{◌≡◌, ℕ, ◌≤◌, false, List, ◌++◌, length, count_by, sym, ap, ◌∙◌, subst, ap₂, arith}
+use Rattle.std.proofs.Common.{◌≡◌, ℕ, false, List, ◌++◌, length, count_by, sym, ap, ◌∙◌, subst, ap₂, arith}
 use Rattle.std.specs.List.{range_with_len, flat_map}
 use Rattle.std.proofs.lemmas.List.{append_assoc}
 use Rattle.shapes.specs.Arrays.{total_chunks}
@@ -7,7 +7,7 @@ use Rattle.shapes.specs.Limits.{Limits}
 use Rattle.shapes.proofs.Held.{limits}
 use Rattle.sources.specs.Meanings.{Meaning}
 use Rattle.cubes.specs.Meanings.{is_readable}
-use Rattle.runs.specs.Planned.{need_of, handing_order, released_after, scanned_storage}
+use Rattle.runs.specs.Planned.{need_of, handing_order}
 use Rattle.runs.specs.declared.counts.Closed.{Closed}
 use Rattle.runs.specs.Answers.{close_answer, passed, waits}
 use Rattle.runs.specs.Holdings.{Moment, view, dims_in}
@@ -17,15 +17,8 @@ use Rattle.runs.specs.Surveys.{readable_chunks, unreadable_chunks}
 use Rattle.listings.specs.Listings.{block_lines, summary_lines}
 use Rattle.listings.proofs.Counting.{count_both}
 use Rattle.listings.proofs.DrivenAnswers.{all_handed, lines_all}
-use Rattle.listings.proofs.Scanned.{scanned_count}
-
--- no more than T chunks were passed, and no more blocks handed out than they release
-pub passed_within : {M : Type 0} (m : Moment M) → passed (view m) ≤ total_chunks (dims_in m)
-passed_within m = let w = m.state.within in let p = m.state.passes in omega arith
-
-pub handed_within : {M : Type 0} (m : Moment M) → (view m).handed ≤ released_after (dims_in m) (passed (view m))
-unfolding released_after
-handed_within m = subst (λ t. (view m).handed ≤ released_after (dims_in m) t) (sym m.state.passes) m.state.until
+use Rattle.runs.proofs.LivingChunks.{reads, all_readable}
+use Rattle.runs.proofs.LivingScans.{handed_within}
 
 module _ {M : Type 0} (empty : M) (op : M → M → M) (σ : Meaning M) (m : Moment M) (driven : Driven empty op σ m) where
   same : σ.dims ≡ dims_in m
@@ -36,11 +29,9 @@ module _ {M : Type 0} (empty : M) (op : M → M → M) (σ : Meaning M) (m : Mom
 
   module _ (whole : passed (view m) ≡ total_chunks (dims_in m)) (idle : waits (view m) ≡ false) where
     pub end_taken : (view m).taken ≡ readable_chunks σ
-    unfolding readable_chunks
     end_taken =
         driven.taken
-        ∙ (ap (λ n. count_by (λ s. is_readable (σ.chunk (scanned_storage σ.dims s))) (range_with_len 0 n)) (whole ∙ ap total_chunks (sym same))
-        ∙ scanned_count σ.dims bounds (λ k. is_readable (σ.chunk k)))
+        ∙ (ap (λ n. count_by (reads σ) (range_with_len 0 n)) (whole ∙ ap total_chunks (sym same)) ∙ all_readable σ bounds)
 
     pub end_skipped : (view m).skipped ≡ unreadable_chunks σ
     unfolding readable_chunks unreadable_chunks
@@ -50,7 +41,7 @@ module _ {M : Type 0} (empty : M) (op : M → M → M) (σ : Meaning M) (m : Mom
         omega (arith, ap total_chunks same)
 
     pub end_handed : (view m).handed ≡ length (handing_order σ.dims)
-    end_handed = all_handed (view m) whole idle (handed_within m) ∙ ap (λ ds. length (handing_order ds)) (sym same)
+    end_handed = all_handed (view m) whole idle (handed_within m.state (length m.cells)) ∙ ap (λ ds. length (handing_order ds)) (sym same)
 
     -- the last line
     pub end_text : end_line (view m).taken (view m).skipped (view m).handed ≡ end_line (readable_chunks σ) (unreadable_chunks σ) (length (handing_order σ.dims))

@@ -1,7 +1,7 @@
 -- The lines that a driven run brings.
 use Rattle.std.proofs.Common.{◌≡◌, ℕ, ◌+◌, ◌-◌, ◌<◌, ◌≤◌, false, cond, List, ◌++◌, length, take, is_ok, Ok, Result, sym, refl, ap, ◌∙◌, subst, ap₂, arith}
 use Rattle.std.proofs.lemmas.List.{append-nil}
-use Rattle.std.proofs.lemmas.Bool.{le-ltb}
+use Rattle.std.proofs.lemmas.Bool.{le-ltb, ltb-true}
 use Rattle.shapes.specs.declared.dims.Dim.{Dim}
 use Rattle.shapes.specs.Arrays.{volume}
 use Rattle.sources.specs.Meanings.{Meaning}
@@ -12,26 +12,27 @@ use Rattle.runs.specs.Holdings.{Moment, dims_in, view}
 use Rattle.runs.specs.Calls.{Hands, next_block}
 use Rattle.listings.specs.Listings.{block_lines, cell_lines}
 use Rattle.listings.specs.Making.{Driven, GoesOn, Rests, lines_upto}
-use Rattle.listings.proofs.DrivenAnswers.{hand_granted, handed_lines, lines_more, next_within}
-use Rattle.listings.proofs.DrivenEnds.{passed_within}
+use Rattle.listings.proofs.DrivenAnswers.{handed_lines, lines_more, next_within}
 use Rattle.listings.proofs.DrivenSteps.{driven_hand, driven_idle}
+use Rattle.runs.proofs.LivingAnswers.{hand_granted}
+use Rattle.runs.proofs.LivingScans.{passed_within}
 
 module _ {M : Type 0} (empty : M) (op : M → M → M) (b : Moment M) (old : List M) (r : Result (ℕ × ℕ × ℕ) RunRefusal) (new : List M) (a : Moment M) (hands : Hands empty op b old r new a) where
   -- the cells of a block that was handed out lie in the buffer
   pub handed_fits : (x : ℕ × ℕ × ℕ) → r ≡ Ok x → x.2 ≤ length old
   handed_fits x e =
-      let g = hand_granted (view b) (length old) x (sym hands.answers ∙ e) in
-      let size = ap (λ (y : ℕ × ℕ × ℕ). y.2) g.2 in
-      omega (arith, g.1)
+      let g = hand_granted (view b) (length old) x (sym e ∙ hands.answers) in
+      let size = ap (λ (y : ℕ × ℕ × ℕ). y.2) g.1 in
+      omega (arith, g.2)
 
   -- fewer blocks are left
   pub fewer_left : (x : ℕ × ℕ × ℕ) → r ≡ Ok x → length (handing_order (dims_in a)) - (view a).handed < length (handing_order (dims_in b)) - (view b).handed
   fewer_left x e =
-      let g = hand_granted (view b) (length old) x (sym hands.answers ∙ e) in
+      let g = hand_granted (view b) (length old) x (sym e ∙ hands.answers) in
       let goes : view a ≡ one_handed (view b) = hands.counts ∙ ap (λ t. cond t (one_handed (view b)) (view b)) (ap is_ok e) in
       let dims = ap (λ (w : View). length (handing_order w.dims)) goes in
       let one = ap (λ (w : View). w.handed) goes in
-      omega (arith, next_within (view b) (passed_within b) g.0)
+      omega (arith, next_within (view b) (passed_within b.state (length b.cells)) g.0)
 
 module _ {M : Type 0} (empty : M) (columns : M → List ℕ) (op : M → M → M) (σ : Meaning M) (s : Moment M) (before : List ℕ) (driven : Driven empty op σ s) where
   pub goes_nowhere : GoesOn empty columns op σ s before s before
@@ -53,7 +54,7 @@ module _ {M : Type 0} (empty : M) (columns : M → List ℕ) (op : M → M → M
         let name : x ≡ hand_name σ.dims (next_block b) = h.3 ∙ ap (λ ds. hand_name ds (next_block b)) (sym same) in
         let bs = handing_order σ.dims in
         let f = block_lines empty columns op σ in
-        let inside : (view b).handed < length bs = omega (arith, next_within (view b) (passed_within b) h.2, ap (λ ds. length (handing_order ds)) same) in
+        let inside : (view b).handed < length bs = omega (arith, next_within (view b) (passed_within b.state (length b.cells)) (ltb-true (view b).handed (released_after (dims_in b) (passed (view b))) h.2), ap (λ ds. length (handing_order ds)) same) in
         let written : cell_lines empty columns x.0 x.1 0 (take x.2 new) ≡ f (block_after σ.dims (view b).handed) =
         ap (λ (y : ℕ × ℕ × ℕ). cell_lines empty columns y.0 y.1 0 (take x.2 new)) name
         ∙ (handed_lines empty op columns σ (next_block b) (take x.2 new) h.4 ∙ ap (λ ds. f (block_after ds (view b).handed)) (sym same)) in

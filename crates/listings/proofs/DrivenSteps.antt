@@ -16,7 +16,9 @@ use Rattle.runs.specs.Holdings.{Moment, view, dims_in}
 use Rattle.runs.specs.Calls.{Makes, Takes, Skips, Hands, next_block}
 use Rattle.listings.specs.Making.{Driven}
 use Rattle.listings.proofs.Counting.{counted_more}
-use Rattle.listings.proofs.DrivenAnswers.{is_taken, is_skipped, is_handed, none_handed, block_fits, handed_block}
+use Rattle.listings.proofs.DrivenAnswers.{is_taken, is_skipped, none_handed, handed_block}
+use Rattle.runs.proofs.LivingAnswers.{hand_comes}
+use Rattle.runs.proofs.LivingScans.{block_fits}
 
 module _ {M : Type 0} (empty : M) (op : M → M → M) (σ : Meaning M) where
   -- a run that begins
@@ -135,14 +137,14 @@ module _ {M : Type 0} (empty : M) (op : M → M → M) (σ : Meaning M) where
           waiting = let w = waits v in let is : waits v ≡ w = refl in waits_or_not w is
 
           name : x ≡ hand_name v.dims (next_block b)
-          name = let h : Ok x ≡ Ok (hand_name v.dims (next_block b)) = sym e ∙ (hands.answers ∙ is_handed σ v same enough (length old) waiting fits) in cc
+          name = let h : Ok x ≡ Ok (hand_name v.dims (next_block b)) = sym e ∙ (hands.answers ∙ hand_comes σ v (sym same) enough waiting (length old) fits) in cc
 
       -- no block waits
       pub driven_idle : is_ok r ≡ false → (waits v ≡ false) × (a ≡ b)
       driven_idle no-hand = (idle (waits v) refl, (hands.refused no-hand).0) where
         idle : (t : Bool) → waits v ≡ t → t ≡ false
         idle false is = refl
-        idle true is = absurd (both_ways (is_ok r) no-hand (ap is_ok (hands.answers ∙ is_handed σ v same enough (length old) is fits)))
+        idle true is = absurd (both_ways (is_ok r) no-hand (ap is_ok (hands.answers ∙ hand_comes σ v (sym same) enough is (length old) fits)))
 
   -- a chunk is passed: it is taken, or refused and then skipped
   module _ (b : Moment M) (driven : Driven empty op σ b) (idle : waits (view b) ≡ false) (more : passed (view b) < total_chunks σ.dims) where

@@ -1,5 +1,5 @@
 -- The lines of the cells that are not empty.
-use Rattle.std.proofs.Common.{◌≡◌, ℕ, ◌+◌, ◌<◌, ◌≤◌, Bool, true, false, cond, List, [], ◌++◌, length, get_or, drop, Decides, sym, refl, ap, ◌∙◌}
+use Rattle.std.proofs.Common.{◌≡◌, ℕ, ◌+◌, ◌<◌, ◌≤◌, Bool, true, false, cond, List, [], ◌++◌, length, get_or, drop, Decides, sym, ap, ◌∙◌}
 use Rattle.std.proofs.lemmas.Slice.Eq.{bytes_eq-Decides}
 use Rattle.std.proofs.lemmas.List.{append_assoc, append-nil, at_drop_more, at_drop_all}
 use Rattle.measures.specs.Totals.{no_total, total_columns, total_ext}
@@ -7,12 +7,7 @@ use Rattle.measures.specs.Ranges.{no_range, range_columns, range_ext}
 use Rattle.measures.specs.Markings.{of_bits, no_marks, marks_columns}
 use Rattle.listings.specs.Lines.{cell_line}
 use Rattle.listings.specs.Listings.{is_empty, TellsEmpty, filled_line, cell_lines}
-
--- tests that hold together are the same
-same_tests : (a b : Bool) → (a ≡ true → b ≡ true) → (b ≡ true → a ≡ true) → a ≡ b
-same_tests true b p q = sym (p refl)
-same_tests false true p q = q refl
-same_tests false false p q = refl
+use Rattle.std.specs.Cmp.{both_ways as same_tests}
 
 module _ {M : Type 0} (empty : M) (columns : M → List ℕ) where
   -- a test of the empty value is the one by columns

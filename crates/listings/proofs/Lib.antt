@@ -4,7 +4,6 @@ pub mod Filled
 pub mod Counting
 pub mod Worked
 pub mod Answering
-pub mod Scanned
 pub mod DrivenAnswers
 pub mod DrivenSteps
 pub mod DrivenEnds

@@ -1,6 +1,6 @@
 -- The second line of a listing.
-use Rattle.std.proofs.Common.{◌≡◌, ℕ, ◌+◌, Bool, cond, not, List, [], ◌∷◌, ◌++◌, length, take, is_some, is_err, Some, None, Ok, Err, fold, Option, Result, refl, ap, ◌∙◌, arith}
-use Rattle.std.specs.List.{range_with_len, flat_map}
+use Rattle.std.proofs.Common.{◌≡◌, ℕ, cond, not, List, [], ◌∷◌, ◌++◌, length, take, is_some, is_err, Some, None, Ok, Err, Option, Result, refl, ap, ◌∙◌, arith}
+use Rattle.std.specs.List.{flat_map}
 use Rattle.shapes.specs.declared.readings.Reading.{Reading}
 use Rattle.shapes.specs.Arrays.{total_chunks}
 use Rattle.shapes.specs.Limits.{Refusal, shape_fault}
@@ -22,10 +22,7 @@ use Rattle.listings.specs.declared.letters.Kind.TheVariants.{Total, Range, Marks
 use Rattle.listings.specs.Lines.{dims_line, cells_line, end_line}
 use Rattle.listings.specs.Listings.{block_lines, summary_lines, unless_refused, listing_fault, file_listing, kind_listing, most_bytes, asked, listing}
 use Rattle.listings.specs.SecondLine.{file_in, faulty_bodies, LeastNeedAndUnreadable}
-
-count_on : (p q : ℕ → Bool) → ((k : ℕ) → p k ≡ q k) → (xs : List ℕ) (a : ℕ) → fold (λ n x. n + cond (p x) 1 0) a xs ≡ fold (λ n x. n + cond (q x) 1 0) a xs
-count_on p q same [] a = refl
-count_on p q same (x ∷ xs) a = count_on p q same xs (a + cond (p x) 1 0) ∙ ap (λ b. fold (λ n x. n + cond (q x) 1 0) (a + cond b 1 0) xs) (same x)
+use Rattle.listings.proofs.Counting.{count_same}
 
 module _ {M : Type 0} (empty : M) (columns : M → List ℕ) (op : M → M → M) (lifted : Reading → M) (bs : List ℕ) where
   fault_is : (r : Result _ Fault) → not (is_readable (chunk_value empty lifted r)) ≡ is_err r
@@ -34,7 +31,7 @@ module _ {M : Type 0} (empty : M) (columns : M → List ℕ) (op : M → M → M
 
   unreadable_is : unreadable_chunks (meaning (file_dims bs) (file_chunk empty lifted bs)) ≡ faulty_bodies bs
   unfolding unreadable_chunks faulty_bodies
-  unreadable_is = count_on (λ k. not (is_readable (file_chunk empty lifted bs k))) (λ k. is_err (readings bs k)) (λ k. fault_is (readings bs k)) (range_with_len 0 (total_chunks (file_dims bs))) 0
+  unreadable_is = count_same (λ k. not (is_readable (file_chunk empty lifted bs k))) (λ k. is_err (readings bs k)) (total_chunks (file_dims bs)) (λ k _. fault_is (readings bs k))
 
   abbrev rest : List ℕ
   rest = flat_map (block_lines empty columns op (meaning (file_dims bs) (file_chunk empty lifted bs))) (handing_order (file_dims bs))

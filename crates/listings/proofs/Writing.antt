@@ -1,16 +1,12 @@
 -- Text written behind a text.
-use Rattle.std.proofs.Common.{◌≡◌, ℕ, ◌+◌, ◌<◌, ◌≤◌, cond, List, [], ◌∷◌, ◌++◌, map, length, get_or, take, is_ok, Ok, Err, codes, decimal, Result, sym, refl, ap, ◌∙◌, ap₂, arith}
+use Rattle.std.proofs.Common.{◌≡◌, ℕ, ◌+◌, ◌<◌, ◌≤◌, cond, List, [], ◌∷◌, ◌++◌, map, length, get_or, take, is_ok, Ok, Err, codes, decimal, Result, sym, refl, ap, ◌∙◌, ap₂, subst}
 use Rattle.std.proofs.lemmas.List.{append_assoc, flat_map_more, map_more, take_all}
 use Rattle.listings.specs.Lines.{spaced, line, cells_line, end_line, refused_lines}
 use Rattle.listings.specs.Making.{Writes}
 
--- what was written, where it is told as another result and as another form of the same text
-pub told_as : {E F : Type 0} (w : Result (Unit {0}) E) (r : Result (Unit {0}) F) (before after bs cs : List ℕ)
-    → is_ok r ≡ is_ok w → bs ≡ cs → Writes w before after bs → Writes r before after cs
-told_as (Ok x) (Ok y) before after bs cs same e h = h ∙ ap (λ ts. before ++ ts) e
-told_as (Ok x) (Err f) before after bs cs same e h = tt
-told_as (Err f) (Ok y) before after bs cs same e h = let z : ◌≡◌ {A = ℕ} 0 1 = cc in absurd (omega arith)
-told_as (Err f) (Err e₁) before after bs cs same e h = tt
+-- what was written, as another form of the same text
+pub told_as : {E : Type 0} (r : Result (Unit {0}) E) (before after bs cs : List ℕ) → bs ≡ cs → Writes r before after bs → Writes r before after cs
+told_as r before after bs cs e h = subst (Writes r before after) e h
 
 -- text written behind what was written before
 pub behind : {E : Type 0} (r : Result (Unit {0}) E) (before was after bs cs : List ℕ) → was ≡ before ++ bs → Writes r was after cs → Writes r before after (bs ++ cs)

@@ -51,6 +51,8 @@ fn needs(rt: HostRuntime) -> Result<(), Fail> {
 fn enough_cells(rt: HostRuntime) -> Result<(), Fail> {
     let plan = plan_of(&[Dim { size: 4, edge: 2 }, Dim { size: 2, edge: 2 }])?;
     assert_eq!(rt; plan.need(), 9);
+    let adds = plan.added();
+    assert!(rt; adds[0..5] == [1, 1, 0, 0, 0]);
     assert_eq!(rt; plan.check(8), Err(TooFewCells { need: 9 }));
     assert_eq!(rt; plan.check(9), Ok(()));
     Ok(())

@@ -20,8 +20,9 @@ use Rattle.runs.specs.Boxes.{dot, joined_at, Positive}
 use Rattle.runs.specs.Layouts.{region_radix, region_radices, cell_number}
 use Rattle.runs.specs.Contents.{CompleteBlock}
 use Rattle.runs.specs.Grids.{radix_at, strides_in, start_of, Narrow, block_edges, Inside, ApartUnder, block_cells, block_joined, LaidOut, RegionOf}
-use Rattle.runs.proofs.CellNumbers.{product_counting, cell_number_below, edge_positive}
+use Rattle.runs.proofs.CellNumbers.{cell_number_below, edge_positive}
 use Rattle.runs.proofs.Padding.{digits_pad, product_pad, below_pad, block_edges_are, block_cell_at, cells_before_in, radix_out}
+use Rattle.cubes.proofs.RegionCells.{product_counting}
 
 -- the radices of a region that stands below 2 ^ 64 multiply within a machine word
 module _ (ds : List Dim) (place : ℕ → ℕ) (divided : Divided ds) (y : Layout) (laid : LaidOut ds place y) (k : Group) (lk : length k ≡ length ds) (base p : ℕ) (u : Region) (of : RegionOf ds k base p u) where

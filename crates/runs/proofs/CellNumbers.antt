@@ -17,21 +17,15 @@ use Rattle.cubes.specs.Summaries.{Divided, big}
 use Rattle.cubes.specs.Scans.{InRegion}
 use Rattle.cubes.proofs.Cells.{length-cleared}
 use Rattle.cubes.proofs.Joins.{big_cong, big_join, big_first, total_counting}
-use Rattle.cubes.proofs.ScanNumbers.{sums, products, below_from_getD}
+use Rattle.cubes.proofs.ScanNumbers.{sums, below_from_getD}
 use Rattle.cubes.proofs.RegionSteps.{getD_cleared}
 use Rattle.runs.specs.Boxes.{dot}
 use Rattle.runs.specs.Layouts.{region_radix, region_radices, region_digit, cell_number, region_stride, block_digit}
+use Rattle.cubes.proofs.RegionCells.{product_counting}
 
 sum_total : (ks : List ℕ) → sum ks ≡ total 0 ◌+◌ ks
 sum_total [] = refl
 sum_total (k ∷ ks) = sum_by-cons (λ x. x) k ks ∙ ap (λ z. k + z) (sum_total ks)
-
-product_total : (ks : List ℕ) → product ks ≡ total 1 ◌*◌ ks
-product_total [] = refl
-product_total (k ∷ ks) = ap (λ z. k * z) (product_total ks)
-
-pub product_counting : (f : ℕ → ℕ) (n : ℕ) → product (map f (range_with_len 0 n)) ≡ big 1 ◌*◌ f n
-product_counting f n = product_total (map f (range_with_len 0 n)) ∙ total_counting 1 ◌*◌ products f 0 n ∙ big_cong 1 ◌*◌ products (λ i. f (0 + i)) f n (λ i l. ap f (zero-add i))
 
 pub sum_counting : (f : ℕ → ℕ) (n : ℕ) → sum (map f (range_with_len 0 n)) ≡ big 0 ◌+◌ f n
 sum_counting f n = sum_total (map f (range_with_len 0 n)) ∙ total_counting 0 ◌+◌ sums f 0 n ∙ big_cong 0 ◌+◌ sums (λ i. f (0 + i)) f n (λ i l. ap f (zero-add i))

@@ -28,6 +28,7 @@ use Rattle.runs.proofs.FromState.{divided_in, top_is}
 use Rattle.runs.proofs.RegionsStand.{root_start}
 use Rattle.runs.proofs.Holding.{Holds, empty_root_is, holds_of, represents_of}
 use Rattle.runs.proofs.ChunkPassed.{scanned_below, holds_pass, more_released}
+use Rattle.sources.proofs.Alikes.{length_cells}
 
 -- a chunk was fetched into the root's region: the first V cells are xs
 module _ {M : Type 0} (empty : M) (b : Moment M) (es : List Dim) (k : ℕ) (is : Ready (view b) es k) where
@@ -151,10 +152,6 @@ pub read_is : {M : Type 0} (k : ℕ) (c : Chunk M) → is_ok (read_answer k c) �
 read_is k (values vs) = refl
 read_is k (faulty cause entry) = refl
 
-pub sized_read : {M : Type 0} (empty : M) (v : ℕ) (c : Chunk M) → sized_chunk v c → length (cells_of empty v c) ≡ v
-sized_read empty v (values vs) e = e
-sized_read empty v (faulty cause entry) e = length-replicate v empty
-
 take_of_read : {M : Type 0} (s k : ℕ) (c : Chunk M) → is_readable c ≡ true → take_read s k c ≡ Ok tt
 take_of_read s k (values vs) e = refl
 take_of_read s k (faulty cause entry) e = absurd (false≢true e)
@@ -226,7 +223,7 @@ module _ {M : Type 0} (empty : M) (op : M → M → M) (σ : Meaning M) (b : Mom
     sized_here = subst (λ z. sized_chunk z (σ.chunk k)) same_volume (sized k (number_within k found))
 
     long : length (cells_of empty v (σ.chunk k)) ≡ v
-    long = sized_read empty v (σ.chunk k) sized_here
+    long = length_cells empty v (σ.chunk k) sized_here
 
     -- what was fetched, over the run's own shape
     over_shape : (xs ys : List M) → ys ≡ xs ++ drop (volume σ.dims) b.cells → ys ≡ xs ++ drop v b.cells

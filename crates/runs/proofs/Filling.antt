@@ -1,10 +1,9 @@
 -- Six radices and six digits: those of a group, of a scan number, and their number.
-use Rattle.std.proofs.Common.{◌≡◌, ℕ, zero, suc, ◌+◌, ◌*◌, ◌/◌, ◌%◌, ◌^◌, ◌<◌, ◌≤◌, true, false, cond, eqb, ltb, List, [], ◌∷◌, ◌++◌, length, get_or, take, set, replicate, sym, refl, ap, ◌∙◌, subst, arith}
+use Rattle.std.proofs.Common.{◌≡◌, ℕ, suc, ◌+◌, ◌*◌, ◌/◌, ◌%◌, ◌^◌, ◌<◌, ◌≤◌, true, false, cond, eqb, List, [], ◌∷◌, length, get_or, take, set, sym, ap, ◌∙◌, subst, arith}
 use Rattle.std.proofs.lemmas.List.{length-take-le, get_or-take, get_or_default, take_all}
 use Rattle.std.proofs.ByRecursion.{All-from_get_or}
 use Rattle.std.proofs.lemmas.List.FromFn.{length-map-range_with_len, get_or-map-range_with_len}
 use Rattle.std.proofs.lemmas.Nat.{mul-le}
-use Rattle.std.proofs.lemmas.Bool.{lt-ltb, and_from}
 use Rattle.shapes.specs.Arrays.{Group, product, number, inside, Below, radix, group}
 use Rattle.shapes.specs.Views.{six}
 use Rattle.shapes.proofs.Held.{fills_more, fills_all}
@@ -16,6 +15,7 @@ use Rattle.plans.specs.Views.{place_in}
 use Rattle.cubes.specs.Scans.{width, weight, scan_digits}
 use Rattle.runs.specs.Trees.{Countable}
 use Rattle.runs.proofs.Widths.{radix_at, radices_long, front_long}
+use Rattle.sources.proofs.Placing.{inside_filled, number_filled}
 
 -- a dropped dimension counts once, so a group has no more blocks than the root
 pub product_radix_le : (g : Group) (ks : List ℕ) → ((i : ℕ) → i < length ks → 0 < get_or ks i 1) → (0 < product ks) × (product (radix g ks) ≤ product ks)
@@ -72,30 +72,10 @@ module _ (n : ℕ) (rs places : List ℕ) (s : ℕ) (c : Countable n rs) (long :
   pub scan_all : (ys : List ℕ) (i : ℕ) → n ≤ i → ys ≡ six 0 (take i (scan_digits (place_in places) (take n rs) s)) → ys ≡ six 0 (scan_digits (place_in places) (take n rs) s)
   scan_all ys i l e = fills_all 0 (scan_digits (place_in places) (take n rs) s) (omega (arith, scan_long, c.few)) ys i (omega (arith, scan_long)) e
 
--- digits that are filled up with 0
-zeros_inside : (n m : ℕ) → inside [] (take n (replicate m 0)) ≡ true
-zeros_inside zero m = refl
-zeros_inside (suc n) zero = refl
-zeros_inside (suc n) (suc m) = zeros_inside n m
-
-filled_inside : (ks cs : List ℕ) (n m : ℕ) → Below ks cs → length cs ≤ n → inside ks (take n (cs ++ replicate m 0)) ≡ true
-filled_inside [] [] n m b l = zeros_inside n m
-filled_inside [] (c ∷ cs) n m b l = absurd b
-filled_inside (k ∷ ks) [] n m b l = absurd b
-filled_inside (k ∷ ks) (c ∷ cs) zero m b l = absurd (omega arith)
-filled_inside (k ∷ ks) (c ∷ cs) (suc n) m b l =
-    and_from (ltb c k) (inside ks (take n (cs ++ replicate m 0))) (lt-ltb c k b.0) (filled_inside ks cs n m b.1 (omega arith))
-
-filled_number : (ks cs : List ℕ) (n m : ℕ) → Below ks cs → length cs ≤ n → number ks (take n (cs ++ replicate m 0)) ≡ number ks cs
-filled_number [] cs n m b l = refl
-filled_number (k ∷ ks) [] n m b l = absurd b
-filled_number (k ∷ ks) (c ∷ cs) zero m b l = absurd (omega arith)
-filled_number (k ∷ ks) (c ∷ cs) (suc n) m b l = ap (λ z. c + k * z) (filled_number ks cs n m b.1 (omega arith))
-
 -- the number of a block's coordinates, both as six
 module _ (ks rs cs xs : List ℕ) (few : length ks ≤ 6) (r : rs ≡ six 1 ks) (x : xs ≡ six 0 cs) (b : Below ks cs) where
   filled_both : (six_long : length xs ≡ 6) → inside ks xs ≡ true
-  filled_both six_long = ap (inside ks) x ∙ filled_inside ks cs 6 6 b (omega (arith, below_length ks cs b))
+  filled_both six_long = ap (inside ks) x ∙ inside_filled ks cs 6 6 b (omega (arith, below_length ks cs b))
 
   pub block_inside : length xs ≡ 6 → inside rs xs ≡ true
   block_inside six_long = ap (λ ys. inside ys xs) r ∙ (inside_six ks xs few six_long ∙ filled_both six_long)
@@ -106,7 +86,7 @@ module _ (ks rs cs xs : List ℕ) (few : length ks ≤ 6) (r : rs ≡ six 1 ks) 
   pub block_number_is : length xs ≡ 6 → number rs xs ≡ number ks cs
   block_number_is six_long =
       ap (λ ys. number ys xs) r ∙ (number-six ks xs few (filled_both six_long)
-      ∙ (ap (number ks) x ∙ filled_number ks cs 6 6 b (omega (arith, below_length ks cs b))))
+      ∙ (ap (number ks) x ∙ number_filled ks cs 6 6 b (omega (arith, below_length ks cs b))))
 
 -- a loop that multiplies them
 module _ (n : ℕ) (rs : List ℕ) (c : Countable n rs) (long : length rs ≡ 6) where

@@ -39,9 +39,9 @@ mod NextChunk
 mod StateAnswers
 mod ReleasesOver
 mod LivingEvents
-mod LivingAnswers
-mod LivingScans
-mod LivingChunks
+pub mod LivingAnswers
+pub mod LivingScans
+pub mod LivingChunks
 mod LivingSteps
 mod LivingRuns
 mod RegionEmptied

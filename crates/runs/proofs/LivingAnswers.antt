@@ -1,15 +1,17 @@
 -- What an accepted take, skip or hand says of the run, and which of the three would be accepted.
 use Rattle.std.proofs.Common.{◌≡◌, ℕ, ◌<◌, ◌≤◌, Bool, true, false, cond, not, ◌&&◌, eqb, ltb, is_ok, Ok, Err, Result, sym, refl, ap, ◌∙◌, subst, ap₂, arith}
-use Rattle.std.proofs.lemmas.Bool.{ltb-true, le-ltb, true≢false}
+use Rattle.std.proofs.lemmas.Bool.{ltb-true, ltb-false, le-ltb, true≢false}
 use Rattle.shapes.specs.Arrays.{total_chunks}
 use Rattle.sources.specs.Meanings.{Chunk, values, faulty, Meaning}
 use Rattle.cubes.specs.Meanings.{is_readable}
 use Rattle.runs.specs.declared.refusals.RunRefusal.{RunRefusal}
 use Rattle.runs.specs.declared.refusals.RunRefusal.TheVariants.{TooFew, BlockWaits, AllPassed, OtherShape, NoBlock, ShortBuffer}
 use Rattle.runs.specs.Planned.{need_of, released_after, scanned_storage, block_after, block_size}
-use Rattle.runs.specs.Answers.{View, passed, waits, done, too_few, same_dims, next_chunk, then_chunk, take_read, take_answer, skip_read, skip_answer, hand_name, hand_answer}
+use Rattle.runs.specs.Answers.{View, passed, waits, done, too_few, next_chunk, then_chunk, take_read, take_answer, skip_read, skip_answer, hand_name, hand_answer}
 use Rattle.runs.specs.Lives.{just_one}
-use Rattle.runs.proofs.NextChunk.{same_dims_decides, Ready, ready}
+use Rattle.runs.proofs.NextChunk.{Ready, ready}
+use Rattle.shapes.specs.Views.{same_dims}
+use Rattle.shapes.proofs.Compared.{same_dims_decides}
 
 -- Accepted calls
 
@@ -49,19 +51,19 @@ module _ {M : Type 0} where
         (g.0, skipped_by (σ.chunk (scanned_storage v.dims (passed v))) g.1)
 
 handed_by : (n size : ℕ) (t w s : Bool) (name x : ℕ × ℕ × ℕ) → Ok x ≡ cond t (Err (TooFew n)) (cond w (cond s (Err (ShortBuffer size)) (Ok name)) (Err NoBlock))
-    → (w ≡ true) × (x ≡ name)
+    → (w ≡ true) × (x ≡ name) × (s ≡ false)
 handed_by n size true w s name x h = never h
 handed_by n size false true true name x h = never h
-handed_by n size false true false name x h = (refl, cc)
+handed_by n size false true false name x h = (refl, cc, refl)
 handed_by n size false false s name x h = never h
 
--- a hand is accepted only while a block waits, and names it
+-- a hand is accepted only while a block waits and with room for it, and names it
 pub hand_granted : (v : View) (room : ℕ) (x : ℕ × ℕ × ℕ) → Ok x ≡ hand_answer v room
-    → (v.handed < released_after v.dims (passed v)) × (x ≡ hand_name v.dims (block_after v.dims v.handed))
+    → (v.handed < released_after v.dims (passed v)) × (x ≡ hand_name v.dims (block_after v.dims v.handed)) × (block_size v.dims (block_after v.dims v.handed) ≤ room)
 hand_granted v room x h =
     let size : ℕ = block_size v.dims (block_after v.dims v.handed) in
     let g = handed_by (need_of v.dims) size (too_few v) (waits v) (ltb room size) (hand_name v.dims (block_after v.dims v.handed)) x h in
-    (ltb-true v.handed (released_after v.dims (passed v)) g.0, g.1)
+    (ltb-true v.handed (released_after v.dims (passed v)) g.0, g.1, ltb-false room size g.2)
 
 -- What would be accepted, by the tests: too few cells, a block waits, all chunks passed, the same dimensions, a short buffer
 

@@ -1,18 +1,15 @@
 -- What the plan's scan and the facts of a run's state say of its life: where the chunks are stored, which blocks are there, and when all is done.
-use Rattle.std.proofs.Common.{◌≡◌, ℕ, suc, ◌+◌, ◌<◌, ◌≤◌, true, false, not, eqb, ◌↔◌, List, [], ◌∷◌, ◌++◌, map, length, sym, ap, ◌∙◌, subst, arith}
-use Rattle.std.specs.List.{AllByRecursion}
-use Rattle.std.proofs.lemmas.Nat.{mul-le}
-use Rattle.std.proofs.ByRecursion.{All-map, All-weaker}
-use Rattle.std.proofs.lemmas.List.{length-append, length-map}
+use Rattle.std.proofs.Common.{◌≡◌, ℕ, suc, ◌+◌, ◌<◌, ◌≤◌, true, not, eqb, ◌↔◌, List, ◌++◌, map, length, get_or, sym, ap, ◌∙◌, subst, arith}
+use Rattle.std.proofs.ByRecursion.{All-get_or}
+use Rattle.std.proofs.lemmas.List.{length-append, length-map, get_or-map}
 use Rattle.std.proofs.lemmas.Bool.{ltb-false, le-ltb, eqb-true, eq-eqb, and_parts, and_from, not-true, not_from_false}
 use Rattle.shapes.specs.declared.dims.Dim.{Dim}
-use Rattle.shapes.specs.Arrays.{Group, Below, product, volume, radix, number, digits, edges, counts, chunks, total_chunks, groups}
-use Rattle.shapes.specs.Limits.{Limits}
+use Rattle.shapes.specs.Arrays.{Below, volume, number, digits, edges, counts, chunks, total_chunks, groups, none_dim}
+use Rattle.shapes.specs.Limits.{Limits, Fit}
 use Rattle.shapes.specs.Views.{dims_of}
 use Rattle.shapes.proofs.Numbering.{number_below, digits_below, number_digits, digits_number}
 use Rattle.cubes.specs.Scans.{scan_number}
 use Rattle.cubes.specs.Handing.{Block, Distinct, named, released, released_by, handing, block_count}
-use Rattle.cubes.proofs.Groups.{limits_edged}
 use Rattle.cubes.proofs.Handing.{released_first}
 use Rattle.cubes.proofs.Naming.{named_once}
 use Rattle.cubes.proofs.ScanNumbers.{scan_digits_below, scan_of_digits, digits_of_scan, scan_below}
@@ -23,6 +20,7 @@ use Rattle.runs.specs.Holdings.{state_view}
 use Rattle.runs.proofs.PlannedScans.{order_is, planned_scan, released_is}
 use Rattle.runs.proofs.FromState.{controls_in}
 use Rattle.runs.proofs.Stepping.{done_all}
+use Rattle.runs.proofs.Filling.{product_radix_le}
 
 -- the scan number of the chunk with a storage number
 unfoldable pub scan_of : List Dim → ℕ → ℕ
@@ -78,15 +76,10 @@ released_few ds t m = front (released_first ds (places_of ds) (adds_of ds) (grou
     front (rest, e) = omega (arith, ap length e, length-append all rest)
 
 -- no block has more cells than a chunk
-radix_few : (g : Group) (ks : List ℕ) → AllByRecursion (λ k. 1 ≤ k) ks → product (radix g ks) ≤ product ks
-radix_few [] [] p = omega arith
-radix_few [] (k ∷ ks) p = omega (arith, mul-le 1 1 k (product ks) p.0 (radix_few [] ks p.1))
-radix_few (b ∷ g) [] p = omega arith
-radix_few (true ∷ g) (k ∷ ks) p = mul-le k (product (radix g ks)) k (product ks) (omega arith) (radix_few g ks p.1)
-radix_few (false ∷ g) (k ∷ ks) p = mul-le 1 (product (radix g ks)) k (product ks) p.0 (radix_few g ks p.1)
-
 pub block_fits : (ds : List Dim) → Limits ds → (b : Block) → block_size ds b ≤ volume ds
-block_fits ds l b = radix_few b.of (edges ds) (All-map (λ k. 1 ≤ k) (λ d. d.edge) ds (All-weaker (λ d. (1 ≤ d.edge) × (d.edge ≤ d.size)) (λ d. 1 ≤ d.edge) (λ d p. p.0) ds (limits_edged ds l)))
+block_fits ds limits b = (product_radix_le b.of (edges ds) (λ i l. some i (rw (length-map ds (λ (d : Dim). d.edge)) at l))).1 where
+  some : (i : ℕ) → i < length ds → 0 < get_or (edges ds) i 1
+  some i l = omega (arith, get_or-map (λ (d : Dim). d.edge) ds i none_dim 1 l, (All-get_or Fit ds i none_dim l limits.each).2)
 
 module _ (s : State) (lent : ℕ) where
   abbrev ds : List Dim

@@ -191,7 +191,7 @@ module _ {M : Type 0} (empty : M) (op : M → M → M) (μ : Meaning M) where
             ++ drop (block_size ds (block_after ds b.state.control.handed)) old
 
         g : (b.state.control.handed < released_after (dims_in b) (passed (view b))) × (x ≡ hand_name (dims_in b) (block_after (dims_in b) b.state.control.handed))
-        g = hand_granted (view b) (length old) x t.answers
+        g = let granted = hand_granted (view b) (length old) x t.answers in (granted.0, granted.1)
     living_hand old new (Err e) t = living_same es b a it (t.represents μ it.represents) (handing old (Err e) new) t.counts refl refl refl
 
   pub living_count : (es : List (Event M)) (m : Moment M) (r : Counts) → Living empty op μ es m → Living empty op μ (es ++ (counting_up r ∷ [])) m

@@ -1,38 +1,14 @@
 -- The chunk that is next, over a source: what is known where it is answered.
-use Rattle.std.proofs.Common.{◌≡◌, ℕ, ◌≤◌, Bool, true, false, cond, ◌&&◌, eqb, List, [], ◌∷◌, Ok, Err, Decides, refl, ap, ap₂, arith}
-use Rattle.std.proofs.lemmas.Bool.{false≢true, ltb-false, eqb-false}
-use Rattle.std.proofs.lemmas.Bool.Decides.{Decides-and, Decides-eqb, Decides-like}
+use Rattle.std.proofs.Common.{◌≡◌, ℕ, ◌≤◌, Bool, true, false, cond, eqb, List, Ok, Err, refl, arith}
+use Rattle.std.proofs.lemmas.Bool.{ltb-false, eqb-false}
 use Rattle.shapes.specs.declared.dims.Dim.{Dim}
 use Rattle.shapes.specs.Arrays.{total_chunks}
 use Rattle.runs.specs.declared.refusals.RunRefusal.{RunRefusal}
 use Rattle.runs.specs.declared.refusals.RunRefusal.TheVariants.{TooFew, BlockWaits, AllPassed, OtherShape}
 use Rattle.runs.specs.Planned.{need_of, scanned_storage}
-use Rattle.runs.specs.Answers.{View, passed, waits, too_few, same_dims, next_chunk}
-
--- lists of dimensions are compared
-dim_same : (d e : Dim) → d.size ≡ e.size → d.edge ≡ e.edge → d ≡ e
-dim_same d e sizes edges =
-    let sized : ℕ → ℕ → Dim = λ x y. record { size = x; edge = y } in
-    ap₂ sized sizes edges
-
-cons_decides : (d e : Dim) (ds es : List Dim) (rest : Bool) → Decides rest (ds ≡ es) → Decides ((eqb d.size e.size && eqb d.edge e.edge) && rest) (d ∷ ds ≡ e ∷ es)
-cons_decides d e ds es rest tail = Decides-like ((eqb d.size e.size && eqb d.edge e.edge) && rest)
-    (λ p. ap₂ ◌∷◌ (dim_same d e p.0.0 p.0.1) p.1)
-    (λ q. ((ap (λ x. x.size) (first q), ap (λ x. x.edge) (first q)), others q))
-    (Decides-and (eqb d.size e.size && eqb d.edge e.edge) rest
-    (Decides-and (eqb d.size e.size) (eqb d.edge e.edge) (Decides-eqb d.size e.size) (Decides-eqb d.edge e.edge)) tail)
-  where
-    first : d ∷ ds ≡ e ∷ es → d ≡ e
-    first q = cc
-
-    others : d ∷ ds ≡ e ∷ es → ds ≡ es
-    others q = cc
-
-pub same_dims_decides : (ds es : List Dim) → Decides (same_dims ds es) (ds ≡ es)
-same_dims_decides [] [] = (λ _. refl, λ _. refl)
-same_dims_decides [] (e ∷ es) = (λ q. absurd (false≢true q), λ q. cc)
-same_dims_decides (d ∷ ds) [] = (λ q. absurd (false≢true q), λ q. cc)
-same_dims_decides (d ∷ ds) (e ∷ es) = cons_decides d e ds es (same_dims ds es) (same_dims_decides ds es)
+use Rattle.runs.specs.Answers.{View, passed, waits, too_few, next_chunk}
+use Rattle.shapes.specs.Views.{same_dims}
+use Rattle.shapes.proofs.Compared.{same_dims_decides}
 
 -- the chunk that is next was found: there are enough cells, no block waits, chunks are left, and the source has the run's shape
 pub record Ready (v : View) (ds : List Dim) (k : ℕ) : Type 0 where

@@ -26,6 +26,7 @@ use Rattle.runs.specs.Planned.{none_block}
 use Rattle.runs.proofs.Steering.{scanned}
 use Rattle.runs.proofs.Stepping.{released_few, next_is, progress}
 use Rattle.runs.proofs.ReleaseMasks.{release_below}
+use Rattle.cubes.proofs.RegionTurns.{nothing_below}
 
 pub of_release_is : (ds : List Dim) (adds : Group → ℕ) (k j : ℕ) → of_release ds adds k j ≡ in_release ds adds (group (length ds) k) (group (length ds) j)
 unfolding of_release
@@ -44,11 +45,6 @@ release_root ds place adds S k j e = let (t, l, u) = under_root ds place adds (g
         (ap (λ h. same_group h (root (length ds))) u ∙ same_group_refl (root (length ds)))
     by (suc t) l u = or_right (same_group g (root (length ds))) (stands_below adds (length ds) g (root (length ds)))
         (under_below ds place adds (groups (length ds)) S t (length ds) g (root (length ds)) u (omega arith))
-
--- no group stands above one that has no dimensions
-none_below : (adds : Group → ℕ) (f : ℕ) (h : Group) → stands_below adds f [] h ≡ false
-none_below adds zero h = refl
-none_below adds (suc f) h = refl
 
 -- of a longer front no fewer pass a test
 kept_rises : {X : Type 0} (p : X → Bool) (xs : List X) (a b : ℕ) → a ≤ b → length (filter p (take a xs)) ≤ length (filter p (take b xs))
@@ -89,7 +85,7 @@ module _ (ds : List Dim) (place : ℕ → ℕ) (adds : Group → ℕ) (c : Contr
       some e = let z : n ≡ 0 = sym (length-group n k) ∙ e in omega (arith, ap (λ i. 2 ^ i) z)
 
       none : in_release ds adds (group n k) [] ≡ false
-      none = or_from (same_group [] (group n k)) (stands_below adds n [] (group n k)) (same_group_ne [] (group n k) (λ e. some (sym (ap length e)))) (none_below adds n (group n k))
+      none = or_from (same_group [] (group n k)) (stands_below adds n [] (group n k)) (same_group_ne [] (group n k) (λ e. some (sym (ap length e)))) (nothing_below adds n (group n k))
 
       by : (o : Option ℕ) → c.next ≡ o → in_release ds adds (group n k) (next_group ds place adds all c.handed) ≡ next_of_release ds adds k o
       by (Some m) e = ap (in_release ds adds (group n k)) ((next_is ds place adds c s (Some m) e).2 none_block) ∙ sym (of_release_is ds adds k m)

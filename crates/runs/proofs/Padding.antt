@@ -17,7 +17,8 @@ use Rattle.runs.specs.declared.layouts.Region.{Region}
 use Rattle.runs.specs.Boxes.{dot}
 use Rattle.runs.specs.Layouts.{region_radix, region_radices, region_digit, cell_number, region_stride, block_digit}
 use Rattle.runs.specs.Grids.{radix_at, cells_in, stride_at, strides_in, first_at, start_of, digit_at, index_of, block_edges, LaidOut, RegionOf}
-use Rattle.runs.proofs.CellNumbers.{product_counting, dot_sum, cell_number_sum, cell_number_strides}
+use Rattle.runs.proofs.CellNumbers.{dot_sum, cell_number_sum, cell_number_strides}
+use Rattle.cubes.proofs.RegionCells.{product_counting}
 
 -- a list filled up to six
 pub six_padded : {X : Type 0} (x : X) (xs : List X) (n : ℕ) → length xs ≡ n → n ≤ 6 → six x xs ≡ xs ++ replicate (6 - n) x

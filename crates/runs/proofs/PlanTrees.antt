@@ -15,10 +15,10 @@ use Rattle.plans.specs.Views.{place_in, Planned}
 use Rattle.cubes.specs.Handing.{parent}
 use Rattle.cubes.specs.Scans.{width}
 use Rattle.cubes.proofs.Cells.{length-radix}
-use Rattle.cubes.proofs.Listing.{all_counting}
 use Rattle.runs.specs.declared.tree.Tree.{Tree}
 use Rattle.runs.specs.Trees.{Grown, adds_in}
 use Rattle.runs.proofs.Growing.{lacked, table_adds, width_alike}
+use Rattle.plans.proofs.Sums.{all_counting}
 
 -- only the places of the dimensions and the dimensions added to the groups matter
 pub order_alike : (ds : List Dim) (p q : ℕ → ℕ) → ((i : ℕ) → i < length ds → p i ≡ q i) → Order ds q → Order ds p

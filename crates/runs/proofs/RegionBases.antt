@@ -1,5 +1,5 @@
 -- The regions one after the other: apart, within the need, and all together the need. The root's region is laid out by offset.
-use Rattle.std.proofs.Common.{◌≡◌, ℕ, ◌+◌, ◌-◌, ◌%◌, ◌^◌, ◌<◌, ◌≤◌, true, cond, ◌⊎◌, List, [], ◌∷◌, map, length, get_or, sum, sym, refl, ap, ◌∙◌, ap₂, inl, inr, zero-add, arith}
+use Rattle.std.proofs.Common.{◌≡◌, ℕ, ◌+◌, ◌-◌, ◌%◌, ◌^◌, ◌<◌, ◌≤◌, true, cond, ◌⊎◌, List, map, length, get_or, sum, sym, ap, ◌∙◌, ap₂, inl, inr, zero-add, arith}
 use Rattle.std.specs.List.{range_with_len}
 use Rattle.std.proofs.lemmas.Nat.{pow_pos}
 use Rattle.std.proofs.lemmas.List.{get_or-map, length-map, ext_get_or}
@@ -16,10 +16,7 @@ use Rattle.cubes.proofs.ScanNumbers.{sums}
 use Rattle.runs.specs.Layouts.{region_radix, region_radices, region_cells, region_digit, cell_number, lacked_place, mask_cells, mask_base, standing}
 use Rattle.runs.proofs.Strides.{sum_part}
 use Rattle.runs.proofs.CellNumbers.{sum_counting, cell_number_below}
-
-map-map : {X Y Z : Type 0} (f : Y → Z) (g : X → Y) (xs : List X) → map f (map g xs) ≡ map (λ x. f (g x)) xs
-map-map f g [] = refl
-map-map f g (x ∷ xs) = ap (λ z. f (g x) ∷ z) (map-map f g xs)
+use mathlib.Core.List.{map-map}
 
 -- a group that keeps all dimensions and lacks none: its region is one block, by offset
 module _ (ds : List Dim) (place : ℕ → ℕ) (g : Group) (all : (i : ℕ) → i < length ds → keeps g i ≡ true) where

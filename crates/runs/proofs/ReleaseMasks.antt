@@ -1,5 +1,5 @@
 -- Releases by masks: a group is of the release of each group that climbing from it by parents comes to.
-use Rattle.std.proofs.Common.{◌≡◌, ℕ, zero, suc, ◌+◌, ◌^◌, ◌<◌, ◌≤◌, Bool, true, false, eqb, ◌⊎◌, List, length, sym, refl, ap, ◌∙◌, subst, inl, inr, ⊎_elim, arith}
+use Rattle.std.proofs.Common.{◌≡◌, ℕ, zero, suc, ◌+◌, ◌^◌, ◌<◌, ◌≤◌, true, false, eqb, ◌⊎◌, List, length, sym, refl, ap, ◌∙◌, subst, inl, inr, ⊎_elim, arith}
 use Rattle.std.specs.List.{ContainsAt as Has}
 use Rattle.std.proofs.lemmas.Bool.{cases_Bool, cases_eq, cases_lt, eq-eqb, ne_eqb, or_cases, or_left, or_right}
 use Rattle.shapes.specs.declared.dims.Dim.{Dim}
@@ -17,12 +17,7 @@ use Rattle.runs.specs.declared.tree.Tree.{Tree}
 use Rattle.runs.specs.Trees.{Grown, node}
 use Rattle.runs.specs.Emptying.{of_release}
 use Rattle.runs.proofs.Steering.{scanned, same_groups}
-
--- two tests that hold together are the same
-pub same_test : (a b : Bool) → (a ≡ true → b ≡ true) → (b ≡ true → a ≡ true) → a ≡ b
-same_test true b f g = sym (f refl)
-same_test false true f g = g refl
-same_test false false f g = refl
+use Rattle.std.specs.Cmp.{both_ways as same_test}
 
 module _ (ds : List Dim) (place : ℕ → ℕ) (adds : Group → ℕ) (S : Scan ds place adds (groups (length ds))) where
   abbrev n : ℕ

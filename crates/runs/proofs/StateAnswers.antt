@@ -1,11 +1,11 @@
 -- What a run's state answers, from what its control says.
-use Rattle.std.proofs.Common.{◌≡◌, ℕ, ◌+◌, ◌-◌, ◌^◌, ◌<◌, Bool, true, false, cond, not, eqb, ltb, List, length, Ok, Err, Decides, sym, refl, ap, ◌∙◌, arith}
+use Rattle.std.proofs.Common.{◌≡◌, ℕ, ◌+◌, ◌-◌, ◌^◌, ◌<◌, Bool, true, false, cond, not, eqb, ltb, List, length, Ok, Err, sym, refl, ap, ◌∙◌, arith}
 use Rattle.std.proofs.lemmas.Bool.{cond-true, cond-false, eq-eqb, ne_eqb}
 use Rattle.std.proofs.lemmas.Bool.Decides.{same_from_decides, Decides-eqb, Decides-ltb, Decides-not, Decides-and, Decides-like}
 use Rattle.shapes.specs.declared.dims.Dim.{Dim}
 use Rattle.shapes.specs.declared.shape.Shape.{Shape}
 use Rattle.shapes.specs.Arrays.{Below, counts, group, groups, number, radix, total_chunks}
-use Rattle.shapes.specs.Views.{dims_of, six}
+use Rattle.shapes.specs.Views.{dims_of, six, same_dims}
 use Rattle.shapes.proofs.Masks.{length-group}
 use Rattle.cubes.specs.Handing.{released}
 use Rattle.cubes.specs.Scans.{scan_digits}
@@ -17,10 +17,9 @@ use Rattle.runs.specs.Controls.{WaitsExactly, DoneExactly}
 use Rattle.runs.specs.Trees.{HasBlock, CoordinatesOf, NumberOf}
 use Rattle.runs.specs.Planned.{places_of, adds_of, released_after, scanned_chunk, scanned_storage}
 use Rattle.runs.specs.declared.refusals.RunRefusal.TheVariants.{BlockWaits, AllPassed, OtherShape}
-use Rattle.runs.specs.Answers.{waits, done, too_few, same_dims, next_chunk}
+use Rattle.runs.specs.Answers.{waits, done, too_few, next_chunk}
 use Rattle.runs.specs.Holdings.{state_view}
 use Rattle.runs.proofs.PlannedScans.{released_is}
-use Rattle.runs.proofs.NextChunk.{same_dims_decides}
 use Rattle.runs.proofs.FromState.{ds, controls_in, grown_in}
 
 module _ (s : State) where
@@ -81,8 +80,8 @@ pub root_mask_is : (n m r : ℕ) → n ≡ m → r ≡ 2 ^ n → 0 < r → r - 1
 root_mask_is n m r same e some = omega (arith, ap (λ k. 2 ^ k) same)
 
 -- as two shapes are, by !=
-pub compared : (ds es : List Dim) (x r b : Bool) → Decides x (ds ≡ es) → r ≡ not x → r ≡ b → same_dims ds es ≡ not b
-compared ds es x r b is e v = same_from_decides (same_dims ds es) x (same_dims_decides ds es) is ∙ (twice x ∙ ap not (sym e ∙ v))
+pub compared : (x r b : Bool) → r ≡ not x → r ≡ b → x ≡ not b
+compared x r b e v = twice x ∙ ap not (sym e ∙ v)
   where
     twice : (z : Bool) → z ≡ not (not z)
     twice true = refl

@@ -27,6 +27,7 @@ use Rattle.runs.proofs.RunMade.{emptied_length}
 use Rattle.runs.proofs.LivingScans.{block_fits}
 use Rattle.runs.proofs.LivingSteps.{fits_itself}
 use Rattle.runs.proofs.LivingRuns.{done_told}
+use Rattle.shapes.proofs.Limited.{off_by}
 
 -- The checks of what is lent
 
@@ -37,10 +38,6 @@ needed_in None = []
 few_by : (b : Bool) (n : ℕ) (e : TooFewCells) → refused_if b (17, n ∷ []) ≡ Some (too_few e) → (b ≡ true) × (e.need ≡ n)
 few_by true n e h = let is : n ∷ [] ≡ e.need ∷ [] = ap needed_in h in (refl, cc)
 few_by false n e h = let z : ◌≡◌ {A = ℕ} 0 1 = cc in absurd (omega arith)
-
-enough_by : (b : Bool) (n : ℕ) → refused_if b (17, n ∷ []) ≡ None → b ≡ false
-enough_by true n h = let z : ◌≡◌ {A = ℕ} 0 1 = cc in absurd (omega arith)
-enough_by false n h = refl
 
 module _ (ds : List Dim) (lent room needed : ℕ) (is : needed ≡ plan_need ds) where
   as_needed : needed ≡ need_of ds
@@ -57,7 +54,7 @@ module _ (ds : List Dim) (lent room needed : ℕ) (is : needed ≡ plan_need ds)
 
   module _ (fine : check_fault lent needed ≡ None) (cells : ℕ) (v : cells ≡ volume ds) where
     enough_lent : lent_answer {A = Unit {0}} ds lent room tt ≡ by_room
-    enough_lent = ap (λ b. cond b (Err (TooFew (need_of ds))) by_room) (sym (ap (ltb lent) as_needed) ∙ enough_by (ltb lent needed) needed fine)
+    enough_lent = ap (λ b. cond b (Err (TooFew (need_of ds))) by_room) (sym (ap (ltb lent) as_needed) ∙ off_by (ltb lent needed) (17, needed ∷ []) fine)
 
     pub short_lent : room < cells → Err (ShortBuffer cells) ≡ lent_answer {A = Unit {0}} ds lent room tt
     short_lent l = ap (λ n. Err (ShortBuffer n)) v ∙ sym (enough_lent ∙ ap (λ b. cond b (Err (ShortBuffer (volume ds))) (Ok tt)) (lt-ltb room (volume ds) (omega arith)))

@@ -1,5 +1,5 @@
 -- What a run's calls answer, from what its user knows of it. Assumes nothing.
-use Rattle.std.specs.Prelude.{ℕ, ◌+◌, Bool, true, false, cond, not, ◌&&◌, List, [], ◌∷◌, Ok, Err, Result, ◌==◌, nat_lt}
+use Rattle.std.specs.Prelude.{ℕ, ◌+◌, Bool, cond, not, ◌&&◌, List, Ok, Err, Result, ◌==◌, nat_lt}
 use Rattle.shapes.specs.declared.dims.Dim.{Dim}
 use Rattle.shapes.specs.Arrays.{total_chunks}
 use Rattle.sources.specs.Meanings.{Chunk, values, faulty, Meaning}
@@ -9,6 +9,7 @@ use Rattle.runs.specs.declared.refusals.RunRefusal.TheVariants.{Unreadable, TooF
 use Rattle.runs.specs.declared.counts.Counts.{Counts}
 use Rattle.runs.specs.declared.counts.Closed.{Closed}
 use Rattle.runs.specs.Planned.{need_of, released_after, scanned_storage, block_after, block_size}
+use Rattle.shapes.specs.Views.{same_dims}
 
 -- what the user of a run knows of it: the dimensions of its shape, how many cells it was lent, and the takes, skips and hands that were accepted
 pub record View : Type 0 where
@@ -33,12 +34,6 @@ done v = passed v == total_chunks v.dims && not (waits v)
 -- fewer cells were lent than the plan needs
 abbrev pub too_few : View → Bool
 too_few v = nat_lt v.lent (need_of v.dims)
-
-abbrev pub same_dims : List Dim → List Dim → Bool
-same_dims [] [] = true
-same_dims [] (e ∷ es) = false
-same_dims (d ∷ ds) [] = false
-same_dims (d ∷ ds) (e ∷ es) = (d.size == e.size && d.edge == e.edge) && same_dims ds es
 
 -- Take and skip: 17, 18, 19, then 20
 

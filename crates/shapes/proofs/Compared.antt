@@ -1,19 +1,20 @@
 -- Shapes compared by their dimensions.
-use Rattle.std.proofs.Common.{◌≡◌, Bool, Decides, ap}
+use Rattle.std.proofs.Common.{◌≡◌, Bool, List, Decides, ap}
 use Rattle.std.specs.Cmp.Lexicographic.{pointwise_decides}
 use Rattle.std.proofs.lemmas.Bool.Decides.{same_from_decides, Decides-eqb, Decides-and}
 use Rattle.shapes.specs.declared.dims.Dim.{Dim}
 use Rattle.shapes.specs.declared.shape.Shape.{Shape}
-use Rattle.shapes.specs.Views.{dims_of, same_dim, same_shape}
+use Rattle.shapes.specs.Views.{dims_of, same_dim, same_dims, same_shape}
+use Rattle.shapes.proofs.Sizing.{dim_ext}
 
 same_dim_decides : (a b : Dim) → Decides (same_dim a b) (a ≡ b)
 same_dim_decides a b =
     let both = Decides-and _ _ (Decides-eqb a.size b.size) (Decides-eqb a.edge b.edge) in
-    (λ t. let p = both.0 t in λ i. record { size = p.0 i; edge = p.1 i }, λ e. both.1 (ap (λ (d : Dim). d.size) e, ap (λ (d : Dim). d.edge) e))
+    (λ t. let p = both.0 t in dim_ext a b p.0 p.1, λ e. both.1 (ap (λ (d : Dim). d.size) e, ap (λ (d : Dim). d.edge) e))
 
-pub same_shape_decides : (s t : Shape) → Decides (same_shape s t) (dims_of s ≡ dims_of t)
-same_shape_decides s t = pointwise_decides same_dim_decides (dims_of s) (dims_of t)
+pub same_dims_decides : (ds es : List Dim) → Decides (same_dims ds es) (ds ≡ es)
+same_dims_decides = pointwise_decides same_dim_decides
 
 -- what decides that the dimensions are the same is the comparison of shapes
 pub same_shape_is : (s t : Shape) (r : Bool) → Decides r (dims_of s ≡ dims_of t) → r ≡ same_shape s t
-same_shape_is s t r decides = same_from_decides r (same_shape s t) decides (same_shape_decides s t)
+same_shape_is s t r decides = same_from_decides r (same_shape s t) decides (same_dims_decides (dims_of s) (dims_of t))

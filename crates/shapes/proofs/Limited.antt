@@ -39,6 +39,10 @@ pub refused_off : (b : Bool) (r : Refusal) → b ≡ false → refused_if b r �
 refused_off true r h = cc
 refused_off false r h = refl
 
+pub off_by : (b : Bool) (r : Refusal) → refused_if b r ≡ None → b ≡ false
+off_by true r h = let z : ◌≡◌ {A = ℕ} 0 1 = cc in absurd (omega arith)
+off_by false r h = refl
+
 module _ (ds : List Dim) where
   pub shape_miscounted : (length ds < 1) ⊎ (6 < length ds) → shape_fault ds ≡ Some (1, [])
   shape_miscounted h =

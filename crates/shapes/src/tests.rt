@@ -22,6 +22,8 @@ fn a_shape_tells_its_numbers(rt: HostRuntime) -> Result<(), Fail> {
     assert_eq!(rt; s.group_count(), 4);
     assert!(rt; s == s);
     assert!(rt; s != Shape::new(&[cut(2, 2), cut(4, 2)])?);
+    assert!(rt; s != Shape::new(&[cut(4, 2)])?);
+    assert!(rt; s != Shape::new(&[cut(4, 2), cut(2, 1)])?);
     Ok(())
 }
 

@@ -43,7 +43,7 @@ module _ {M : Type 0} (empty : M) (m : Meaning M) (k : ℕ) where
     full_cells xs h =
         ap₂ (λ b d. cond b xs (cond d xs (cells_of empty (volume m.dims) (m.chunk k) ++ drop (volume m.dims) xs))) (lt-leb (total_chunks m.dims) k below) (le-ltb (length xs) (volume m.dims) h)
 
-length_cells : {M : Type 0} (empty : M) (v : ℕ) (c : Chunk M) → sized_chunk v c → length (cells_of empty v c) ≡ v
+pub length_cells : {M : Type 0} (empty : M) (v : ℕ) (c : Chunk M) → sized_chunk v c → length (cells_of empty v c) ≡ v
 length_cells empty v (values vs) h = h
 length_cells empty v (faulty cause entry) h = length-replicate v empty
 

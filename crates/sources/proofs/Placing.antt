@@ -15,12 +15,12 @@ use Rattle.sources.specs.Readings.{is_reading}
 use Rattle.sources.specs.Rows.{in_range, place}
 
 -- a list of digits filled up with zeros
-inside_zeros : (n m : ℕ) → inside [] (take n (replicate m 0)) ≡ true
+pub inside_zeros : (n m : ℕ) → inside [] (take n (replicate m 0)) ≡ true
 inside_zeros zero m = refl
 inside_zeros (suc n) zero = refl
 inside_zeros (suc n) (suc m) = inside_zeros n m
 
-inside_filled : (ks ys : List ℕ) (n m : ℕ) → Below ks ys → length ys ≤ n → inside ks (take n (ys ++ replicate m 0)) ≡ true
+pub inside_filled : (ks ys : List ℕ) (n m : ℕ) → Below ks ys → length ys ≤ n → inside ks (take n (ys ++ replicate m 0)) ≡ true
 inside_filled [] [] n m b l = inside_zeros n m
 inside_filled [] (y ∷ ys) n m b l = absurd b
 inside_filled (k ∷ ks) [] n m b l = absurd b
@@ -28,7 +28,7 @@ inside_filled (k ∷ ks) (y ∷ ys) zero m b l = absurd (omega arith)
 inside_filled (k ∷ ks) (y ∷ ys) (suc n) m b l =
     and_from (ltb y k) (inside ks (take n (ys ++ replicate m 0))) (lt-ltb y k b.0) (inside_filled ks ys n m b.1 (omega arith))
 
-number_filled : (ks ys : List ℕ) (n m : ℕ) → Below ks ys → length ys ≤ n → number ks (take n (ys ++ replicate m 0)) ≡ number ks ys
+pub number_filled : (ks ys : List ℕ) (n m : ℕ) → Below ks ys → length ys ≤ n → number ks (take n (ys ++ replicate m 0)) ≡ number ks ys
 number_filled [] ys n m b l = refl
 number_filled (k ∷ ks) [] n m b l = absurd b
 number_filled (k ∷ ks) (y ∷ ys) zero m b l = absurd (omega arith)
@@ -42,7 +42,7 @@ numbered_six ks ys b few =
 never : {A : Type 0} → false ≡ true → A
 never e = let z : ◌≡◌ {A = ℕ} 0 1 = cc in absurd (omega arith)
 
-chunk_below : (x : ℕ) (d : Dim) → Fit d → x < d.size → x / d.edge < chunks d
+pub chunk_below : (x : ℕ) (d : Dim) → Fit d → x < d.size → x / d.edge < chunks d
 chunk_below x d fit h =
     let even = fit.4 in
     let whole = div-add-mod' d.size d.edge in

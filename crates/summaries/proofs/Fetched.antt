@@ -1,6 +1,6 @@
 -- What a chunk that was fetched brings to a summary cell.
 use Rattle.std.proofs.Common.{◌≡◌, ℕ, ◌<◌, ◌≤◌, Bool, false, cond, ◌&&◌, List, length, get_or, take, drop, Ok, Err, Result, sym, refl, ap, ◌∙◌, ap₂, ⊎_elim, arith}
-use Rattle.std.proofs.lemmas.List.{length-map, get_or_default, get_or_past, length-replicate, drop_at}
+use Rattle.std.proofs.lemmas.List.{length-map, get_or_default, get_or_past, drop_at}
 use Rattle.std.proofs.lemmas.Bool.{cases_lt}
 use Rattle.std.proofs.lemmas.Nat.{le-div}
 use Rattle.shapes.specs.declared.dims.Dim.{Dim}
@@ -12,8 +12,8 @@ use Rattle.shapes.proofs.Numbering.{length_digits}
 use Rattle.shapes.proofs.Sixes.{six_at, length-six}
 use Rattle.measures.specs.Laws.{Lawful}
 use Rattle.sources.specs.declared.refusals.SourceRefusal.{SourceRefusal}
-use Rattle.sources.specs.Meanings.{Chunk, values, faulty, Meaning, Sized, sized_chunk, fetch_answer, read_answer, cells_after, cells_of}
-use Rattle.sources.proofs.Alikes.{full_answer, full_cells, first_cells}
+use Rattle.sources.specs.Meanings.{Chunk, values, faulty, Meaning, Sized, fetch_answer, read_answer, cells_after, cells_of}
+use Rattle.sources.proofs.Alikes.{full_answer, full_cells, first_cells, length_cells}
 use Rattle.cubes.specs.Meanings.{is_readable, values_of}
 use Rattle.cubes.specs.Summaries.{big}
 use Rattle.cubes.proofs.Joins.{big_cong, big_none}
@@ -99,10 +99,6 @@ module _ {M : Type 0} (empty : M) (op : M → M → M) (laws : Lawful empty op) 
     pub sum_unreadable : (e : SourceRefusal) → fetch_answer m k (length xs) ≡ Err e → empty ≡ big empty op (brings empty m g x k) (volume m.dims)
     sum_unreadable e h =
         unfilled (λ o. agrees g x (cell_at m.dims (digits (counts m.dims) k) (digits (edges m.dims) o))) (volume m.dims) k (m.chunk k) e (sym (full_answer empty m k there (length xs) room) ∙ h)
-
-length_cells : {M : Type 0} (empty : M) (v : ℕ) (c : Chunk M) → sized_chunk v c → length (cells_of empty v c) ≡ v
-length_cells empty v (values vs) h = h
-length_cells empty v (faulty cause entry) h = length-replicate v empty
 
 -- what lies past the first cells stays
 pub rest_stays : {M : Type 0} (empty : M) (m : Meaning M) (k : ℕ) → k < total_chunks m.dims → (xs : List M) → volume m.dims ≤ length xs → Sized m

@@ -1,4 +1,4 @@
-use Rattle.std.proofs.Common.{string_bytes, sym, refl, ◌∙◌}
+use Rattle.std.proofs.Common.{string_bytes, sym, ◌∙◌}
 use Rattle.listings.specs.Lines.{cell_line}
 use Rattle.listings.specs.Listings.{filled_line}
 use Rattle.listings.proofs.Writing.{told_as}
@@ -15,7 +15,7 @@ pub returns : goal.returns
 returns g c =
     let a = c.args in
     let e = tests_empty g.M.Measure.empty g.M.Measure.columns c.requires a.value.now c.is_empty.result c.is_empty.ensures in
-    told_as c.add_cell_line.result c.add_cell_line.result (string_bytes a.text.now) (string_bytes c.add_cell_line.new.text)
+    told_as c.add_cell_line.result (string_bytes a.text.now) (string_bytes c.add_cell_line.new.text)
     (cell_line a.mask a.number a.offset (g.M.Measure.columns a.value.now))
-    (filled_line g.M.Measure.empty g.M.Measure.columns a.mask a.number a.offset a.value.now) refl
+    (filled_line g.M.Measure.empty g.M.Measure.columns a.mask a.number a.offset a.value.now)
     (line_unless_empty g.M.Measure.empty g.M.Measure.columns a.mask a.number a.offset a.value.now (sym e ∙ c.if-is_empty.false)) c.add_cell_line.ensures

@@ -1,4 +1,4 @@
-use Rattle.std.proofs.Common.{◌≡◌, ◌++◌, string_bytes, refl, ap, ◌∙◌}
+use Rattle.std.proofs.Common.{◌≡◌, ◌++◌, string_bytes, ap, ◌∙◌}
 use Rattle.sources.specs.Meanings.{means}
 use Rattle.listings.specs.Lines.{dims_line, cells_line}
 use Rattle.runs.specs.Surveys.{unreadable_chunks}
@@ -13,6 +13,6 @@ returns g c =
     record {
       same = c.count_unreadable-unreadable.ensures.same;
       lines = behind c.add_cells_line.result text (string_bytes c.add_shape_line.new.text) (string_bytes c.add_cells_line.new.text) (dims_line σ.dims) (cells_line c.args.need (unreadable_chunks σ)) first
-          (told_as c.add_cells_line.result c.add_cells_line.result (string_bytes c.add_shape_line.new.text) (string_bytes c.add_cells_line.new.text) _ (cells_line c.args.need (unreadable_chunks σ)) refl
+          (told_as c.add_cells_line.result (string_bytes c.add_shape_line.new.text) (string_bytes c.add_cells_line.new.text) _ (cells_line c.args.need (unreadable_chunks σ))
           (ap (cells_line c.args.need) (c.count_unreadable-unreadable.ensures.counted c.requires)) c.add_cells_line.ensures);
     }

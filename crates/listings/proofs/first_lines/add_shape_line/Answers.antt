@@ -13,4 +13,4 @@ returns c =
     let ds = dims_of c.args.shape.now in
     let same : take (c.dimensions.result - 0) c.dims-dims.result ≡ ds =
     ap₂ take (sub-zero c.dimensions.result ∙ c.dimensions.ensures) c.dims-dims.ensures ∙ take-six none_dim ds (length ds) refl (dims_few c.args.shape.now) in
-    told_as c.add_dims_line.result c.add_dims_line.result (string_bytes c.args.text.now) (string_bytes c.add_dims_line.new.text) _ (dims_line ds) refl (ap dims_line same) c.add_dims_line.ensures
+    told_as c.add_dims_line.result (string_bytes c.args.text.now) (string_bytes c.add_dims_line.new.text) _ (dims_line ds) (ap dims_line same) c.add_dims_line.ensures
