@@ -4,9 +4,11 @@ use Rattle.std.proofs.lemmas.Bool.Decides.{nat_tests}
 use Rattle.std.proofs.lemmas.Bool.{lt-ltb, le-ltb, eq-eqb, ne_eqb}
 use Rattle.std.proofs.lemmas.List.{at_drop_more, at_drop_all}
 use Rattle.std.proofs.lemmas.List.FromFn.{length-map-range_with_len, get_or-map-range_with_len}
+use Rattle.shapes.specs.declared.dims.Dim.{Dim}
+use Rattle.shapes.specs.Arrays.{volume, total_chunks}
 use Rattle.shapes.specs.Limits.{Refusal, or_else, refused_if}
 use Rattle.chunk_files.specs.declared.entry.Entry.{Entry}
-use Rattle.chunk_files.specs.Layouts.{entry_at, entries_from, body_length, right, entries_fault, ending, directory_fault}
+use Rattle.chunk_files.specs.Layouts.{directory_at, entry_at, entries_from, body_length, right, entries_fault, ending, directory_fault}
 
 module _ (bs : List ℕ) (from v t : ℕ) where
   length_entries : length (entries_from bs from t) ≡ t
@@ -89,3 +91,8 @@ module _ (bs : List ℕ) (from v t : ℕ) where
 
 pub body_small : (v at : ℕ) (e : Entry) → v ≤ 16384 → right v at e ≡ true → body_length v e ≤ 98304
 body_small v at e l r = grind (arith, nat_tests)
+
+-- the numbers of a shape in place of the dimensions
+pub of_shape : (bs : List ℕ) (ds : List Dim) {n v t : ℕ} {o : Option Refusal} → n ≡ length ds → v ≡ volume ds → t ≡ total_chunks ds
+    → directory_fault bs (4 + 8 * n) v t ≡ o → directory_fault bs (directory_at ds) (volume ds) (total_chunks ds) ≡ o
+of_shape bs ds a b c h = (λ i. directory_fault bs (4 + 8 * sym a i) (sym b i) (sym c i)) ∙ h

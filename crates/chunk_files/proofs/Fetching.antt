@@ -1,6 +1,5 @@
 -- What a fetch from a chunk file answers and leaves.
-use Rattle.std.proofs.Common.{◌≡◌, ℕ, ◌+◌, ◌-◌, ◌*◌, ◌<◌, ◌≤◌, Bool, true, false, cond, eqb, List, ◌++◌, map, length, take, drop, Some, None, Ok, Err, Option, Result, sym, ap, ◌∙◌, ap₂}
-use native.Mathlib.Nat.{sub-zero}
+use Rattle.std.proofs.Common.{◌≡◌, ℕ, ◌*◌, ◌<◌, ◌≤◌, Bool, true, false, cond, eqb, List, ◌++◌, map, length, take, drop, Some, None, Ok, Err, Option, Result, sym, ap, ◌∙◌, ap₂}
 use Rattle.std.proofs.lemmas.List.FromFn.{length-map-range_with_len}
 use Rattle.std.proofs.lemmas.List.{length-map, length-take-le}
 use Rattle.shapes.specs.declared.dims.Dim.{Dim}
@@ -10,7 +9,7 @@ use Rattle.sources.specs.declared.refusals.SourceRefusal.{SourceRefusal}
 use Rattle.sources.specs.Meanings.{Chunk, Meaning, sized_chunk, Sized, read_answer, fetch_answer, cells_of, cells_after, room_answer}
 use Rattle.sources.proofs.Alikes.{room_refused, room_granted, full_answer, full_cells}
 use Rattle.chunk_files.specs.declared.entry.Entry.{Entry}
-use Rattle.chunk_files.specs.Layouts.{word, directory_at, entry_at, file_dims}
+use Rattle.chunk_files.specs.Layouts.{word, file_dims}
 use Rattle.chunk_files.specs.Bodies.{Fault, pairs_in, held, sparse_fault, sparse_cells, dense_fault, dense_cells, unless, body, body_of, entry_of, readings}
 use Rattle.chunk_files.specs.Contents.{cell_value, chunk_value, file_chunk}
 
@@ -45,25 +44,25 @@ module _ {M : Type 0} (empty : M) (lifted : Reading → M) where
     granted v h = room_granted empty (meaning bs) k v (length xs) (ap (λ d. room_answer d k (length xs)) (sym told) ∙ h)
 
     -- the chunk is read into the first v cells
-    module _ (v : ℕ) (room : room_answer ds k (length xs) ≡ Ok v) (e : Entry) (entry : e ≡ entry_at bs (directory_at ds + 8 * k)) where
+    module _ (v : ℕ) (room : room_answer ds k (length xs) ≡ Ok v) (e : Entry) (entry : e ≡ entry_of bs k) where
       abbrev size : ℕ
-      size = length (take (v - 0) xs)
+      size = length (take v xs)
 
       abbrev pub chunk_read : Chunk M
       chunk_read = chunk_value empty lifted (body size e (body_of bs size e))
 
       size_is : size ≡ volume (file_dims bs)
-      size_is = let g = granted v room in ap (λ n. length (take n xs)) (sub-zero v ∙ g.2) ∙ length-take-le (volume (file_dims bs)) xs g.1
+      size_is = let g = granted v room in ap (λ n. length (take n xs)) g.2 ∙ length-take-le (volume (file_dims bs)) xs g.1
 
       read_is : body size e (body_of bs size e) ≡ readings bs k
       unfolding readings
-      read_is = let e' : e ≡ entry_of bs k = entry ∙ ap (λ d. entry_at bs (directory_at d + 8 * k)) told in λ i. body (size_is i) (e' i) (body_of bs (size_is i) (e' i))
+      read_is = λ i. body (size_is i) (entry i) (body_of bs (size_is i) (entry i))
 
       pub answered : (r : Result (Unit {0}) SourceRefusal) → r ≡ read_answer k chunk_read → r ≡ fetch_answer (meaning bs) k (length xs)
       answered r a = let g = granted v room in a ∙ (ap (λ b. read_answer k (chunk_value empty lifted b)) read_is ∙ sym (full_answer empty (meaning bs) k g.0 (length xs) g.1))
 
-      pub filled_up : (ys : List M) → ys ≡ cells_of empty size chunk_read → ys ++ drop (v - 0) xs ≡ cells_after empty (meaning bs) k xs
+      pub filled_up : (ys : List M) → ys ≡ cells_of empty size chunk_read → ys ++ drop v xs ≡ cells_after empty (meaning bs) k xs
       filled_up ys f =
           let g = granted v room in
-          ap₂ (λ us n. us ++ drop n xs) (f ∙ (λ i. cells_of empty (size_is i) (chunk_value empty lifted (read_is i)))) (sub-zero v ∙ g.2)
+          ap₂ (λ us n. us ++ drop n xs) (f ∙ (λ i. cells_of empty (size_is i) (chunk_value empty lifted (read_is i)))) g.2
           ∙ sym (full_cells empty (meaning bs) k g.0 xs g.1)

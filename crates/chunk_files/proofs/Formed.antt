@@ -14,7 +14,7 @@ use Rattle.chunk_files.specs.declared.entry.Entry.{Entry}
 use Rattle.chunk_files.specs.Layouts.{header_bytes, dim_bytes, entry_bytes, file_of, directory_at, bodies_at, body_length, Right, Laid, Layout, dim_at, dims_from, dims_in, entry_at, entries_from, marked, head_fault, sizes_fault, right, entries_fault, ending, directory_fault, file_fault, file_dims}
 use Rattle.chunk_files.specs.Bodies.{body, body_of, entry_of, readings, Tells}
 use Rattle.chunk_files.proofs.Directories.{directory_long}
-use Rattle.chunk_files.proofs.Opening.{length-dims, dims_kept}
+use Rattle.chunk_files.proofs.Opening.{length-dims, dims_kept, sizes_whole}
 use Rattle.chunk_files.proofs.Encoded.{length_records, record_at, records_back, ShortDim, dim_back, ShortEntry, entry_back}
 use Rattle.chunk_files.proofs.Spelled.{Bytes, word_short, take_4, take_split, records_spelled, dim_spelled, entry_spelled}
 
@@ -185,9 +185,6 @@ length_directory es = length_records entry_bytes entry_at 8 ShortEntry (λ x. re
 none_all : (bs : List ℕ) → head_fault bs ≡ None → sizes_fault (get_or bs 1 0) (length bs - 4) ≡ None → shape_fault (dims_in bs) ≡ None → directory_fault bs (4 + 8 * get_or bs 1 0) (volume (dims_in bs)) (total_chunks (dims_in bs)) ≡ None → file_fault bs ≡ None
 unfolding file_fault
 none_all bs h s f d = λ i. or_else (h i) (or_else (s i) (or_else (f i) (d i)))
-
-sizes_whole : (n len : ℕ) → 1 ≤ n → n ≤ 6 → 8 * n ≤ len → sizes_fault n len ≡ None
-sizes_whole n len a b l = grind (arith, nat_tests)
 
 module _ (ds : List Dim) (es : List Entry) (bodies : List (List ℕ)) (limits : Limits ds) (each : length es ≡ total_chunks ds) (laid : Laid (volume ds) (bodies_at ds) es bodies) where
   abbrev file : List ℕ

@@ -3,7 +3,6 @@ pub mod Opening
 pub mod Encoded
 pub mod Spelled
 pub mod Formed
-pub mod Parts
 pub mod Pairings
 pub mod Wordings
 pub mod Fetching

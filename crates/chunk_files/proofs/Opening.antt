@@ -1,14 +1,14 @@
 -- The check of a file, layer by layer, and the dimensions that bytes tell.
-use Rattle.std.proofs.Common.{◌≡◌, ℕ, ◌+◌, ◌-◌, ◌*◌, ◌<◌, ◌≤◌, Bool, true, false, cond, not, List, [], ◌∷◌, map, length, get_or, take, drop, is_some, Some, None, Option, sym, refl, ap, ◌∙◌, inr, arith}
+use Rattle.std.proofs.Common.{◌≡◌, ℕ, ◌+◌, ◌-◌, ◌*◌, ◌<◌, ◌≤◌, cond, List, [], ◌∷◌, map, length, get_or, drop, is_some, Some, None, Option, sym, refl, ap, ◌∙◌, arith}
 use Rattle.std.specs.List.{range_with_len}
-use Rattle.std.proofs.lemmas.List.{get_or-drop, take_rest, length-drop}
-use Rattle.std.proofs.lemmas.Bool.{lt-ltb, le-ltb}
+use Rattle.std.proofs.lemmas.List.{get_or-drop, length-drop}
+use Rattle.std.proofs.lemmas.Bool.Decides.{nat_tests}
 use Rattle.std.proofs.lemmas.List.FromFn.{length-map-range_with_len, get_or-map-range_with_len, fill_by_all}
 use Rattle.shapes.specs.declared.dims.Dim.{Dim}
 use Rattle.shapes.specs.Arrays.{volume, total_chunks, none_dim}
-use Rattle.shapes.specs.Limits.{Refusal, or_else, refused_if, shape_fault}
-use Rattle.shapes.proofs.Limited.{shape_miscounted}
-use Rattle.chunk_files.specs.Layouts.{word, dim_at, dims_from, dims_in, marked, head_fault, sizes_fault, directory_fault, file_fault, file_dims}
+use Rattle.shapes.specs.Limits.{Limits, Refusal, or_else, shape_fault}
+use Rattle.shapes.proofs.Limited.{limits_fault}
+use Rattle.chunk_files.specs.Layouts.{word, directory_at, dim_at, dims_from, dims_in, head_fault, sizes_fault, directory_fault, file_fault, file_dims}
 
 -- two lists by index are equal where they agree
 pub map_counting_same : {X : Type 0} (d : X) (f g : ℕ → X) (n : ℕ) → ((k : ℕ) → k < n → f k ≡ g k) → map f (range_with_len 0 n) ≡ map g (range_with_len 0 n)
@@ -37,21 +37,11 @@ length-dims bs from n = length-map-range_with_len (λ i. dim_at bs (from + 8 * i
 
 -- The dimensions that bytes tell
 
-pub dims_refused : (bs : List ℕ) (r : Refusal) → shape_fault (dims_in bs) ≡ Some r → file_dims bs ≡ none_dim ∷ []
-unfolding file_dims
-dims_refused bs r e = ap (λ o. cond (is_some o) (none_dim ∷ []) (dims_in bs)) e
-
 pub dims_kept : (bs : List ℕ) → shape_fault (dims_in bs) ≡ None → file_dims bs ≡ dims_in bs
 unfolding file_dims
 dims_kept bs e = ap (λ o. cond (is_some o) (none_dim ∷ []) (dims_in bs)) e
 
-pub dims_many : (bs : List ℕ) → 6 < get_or bs 1 0 → file_dims bs ≡ none_dim ∷ []
-dims_many bs l = let n = length-dims bs 4 (get_or bs 1 0) in dims_refused bs (1, []) (shape_miscounted (dims_in bs) (inr (omega arith)))
-
 -- The check, by its first fault
-
-abbrev pub rest_of : List ℕ → List ℕ
-rest_of bs = take (length bs - 4) (drop 4 bs)
 
 abbrev pub rest_fault : List ℕ → ℕ → Option Refusal
 rest_fault rest n = or_else (sizes_fault n (length rest)) (shape_fault (dims_from rest 0 n))
@@ -59,39 +49,45 @@ rest_fault rest n = or_else (sizes_fault n (length rest)) (shape_fault (dims_fro
 abbrev pub late_fault : List ℕ → Option Refusal
 late_fault bs = directory_fault bs (4 + 8 * get_or bs 1 0) (volume (dims_in bs)) (total_chunks (dims_in bs))
 
-pub dims_rest : (bs : List ℕ) → dims_from (rest_of bs) 0 (get_or bs 1 0) ≡ dims_in bs
-dims_rest bs = ap (λ r. dims_from r 0 (get_or bs 1 0)) (take_rest bs 4) ∙ dims_after 4 bs (get_or bs 1 0)
+pub sizes_whole : (n len : ℕ) → 1 ≤ n → n ≤ 6 → 8 * n ≤ len → sizes_fault n len ≡ None
+sizes_whole n len a b l = grind (arith, nat_tests)
+
+pub rest_whole : (rest : List ℕ) (n : ℕ) (ds : List Dim) → 1 ≤ n → n ≤ 6 → 8 * n ≤ length rest → ds ≡ dims_from rest 0 n → rest_fault rest n ≡ shape_fault ds
+rest_whole rest n ds a b l e = ap (λ o. or_else o (shape_fault (dims_from rest 0 n))) (sizes_whole n (length rest) a b l) ∙ ap shape_fault (sym e)
 
 or_else_assoc : {X : Type 0} (o p q : Option X) → or_else (or_else o p) q ≡ or_else o (or_else p q)
 or_else_assoc (Some x) p q = refl
 or_else_assoc None p q = refl
 
-pub file_staged : (bs : List ℕ) → file_fault bs ≡ or_else (head_fault bs) (or_else (rest_fault (rest_of bs) (get_or bs 1 0)) (late_fault bs))
+file_staged : (bs : List ℕ) → file_fault bs ≡ or_else (head_fault bs) (or_else (rest_fault (drop 4 bs) (get_or bs 1 0)) (late_fault bs))
 unfolding file_fault
 file_staged bs =
-    let l : length (rest_of bs) ≡ length bs - 4 = ap length (take_rest bs 4) ∙ length-drop 4 bs in
+    let n = get_or bs 1 0 in
     ap (or_else (head_fault bs))
-    (sym (or_else_assoc (sizes_fault (get_or bs 1 0) (length bs - 4)) (shape_fault (dims_in bs)) (late_fault bs))
-    ∙ (λ i. or_else (or_else (sizes_fault (get_or bs 1 0) (sym l i)) (shape_fault (sym (dims_rest bs) i))) (late_fault bs)))
+    (sym (or_else_assoc (sizes_fault n (length bs - 4)) (shape_fault (dims_in bs)) (late_fault bs))
+    ∙ (λ i. or_else (or_else (sizes_fault n (sym (length-drop 4 bs) i)) (shape_fault (sym (dims_after 4 bs n) i))) (late_fault bs)))
 
-pub file_short : (bs : List ℕ) → length bs < 4 → file_fault bs ≡ Some (7, [])
-file_short bs l = file_staged bs ∙ ap (λ b. or_else (or_else (refused_if b (7, [])) (refused_if (not (marked bs)) (8, []))) (or_else (rest_fault (rest_of bs) (get_or bs 1 0)) (late_fault bs))) (lt-ltb (length bs) 4 l)
+pub file_unmarked : (bs : List ℕ) (r : Refusal) → head_fault bs ≡ Some r → file_fault bs ≡ Some r
+file_unmarked bs r e = file_staged bs ∙ ap (λ o. or_else o (or_else (rest_fault (drop 4 bs) (get_or bs 1 0)) (late_fault bs))) e
 
--- bytes that are long enough for a mark
-module _ (bs : List ℕ) (l : 4 ≤ length bs) where
-  file_marked : (b : Bool) → marked bs ≡ b → file_fault bs ≡ or_else (refused_if (not b) (8, [])) (or_else (rest_fault (rest_of bs) (get_or bs 1 0)) (late_fault bs))
-  file_marked b m = file_staged bs ∙ (λ i. or_else (or_else (refused_if (le-ltb (length bs) 4 l i) (7, [])) (refused_if (not (m i)) (8, []))) (or_else (rest_fault (rest_of bs) (get_or bs 1 0)) (late_fault bs)))
+-- bytes with a mark, the number of dimensions, and the bytes from there on
+module _ (bs : List ℕ) (marked : head_fault bs ≡ None) (n : ℕ) (rest : List ℕ) (at : n ≡ get_or bs 1 0) (is : rest ≡ drop 4 bs) where
+  file_marked : file_fault bs ≡ or_else (rest_fault rest n) (late_fault bs)
+  file_marked = file_staged bs ∙ (λ i. or_else (marked i) (or_else (rest_fault (sym is i) (sym at i)) (late_fault bs)))
 
-  pub file_unmarked : marked bs ≡ false → file_fault bs ≡ Some (8, [])
-  file_unmarked = file_marked false
+  pub file_ill_shaped : (r : Refusal) → rest_fault rest n ≡ Some r → file_fault bs ≡ Some r
+  file_ill_shaped r e = file_marked ∙ ap (λ o. or_else o (late_fault bs)) e
 
-  pub file_ill_shaped : marked bs ≡ true → (r : Refusal) → rest_fault (rest_of bs) (get_or bs 1 0) ≡ Some r → file_fault bs ≡ Some r
-  file_ill_shaped m r e = file_marked true m ∙ ap (λ o. or_else o (late_fault bs)) e
+  -- the dimensions of the shape that was read
+  module _ (ds : List Dim) (read : (rest_fault rest n ≡ None) × (ds ≡ dims_from rest 0 n)) where
+    told : ds ≡ dims_in bs
+    told = read.1 ∙ ((λ i. dims_from (is i) 0 (at i)) ∙ dims_after 4 bs (get_or bs 1 0))
 
-  pub file_shaped : marked bs ≡ true → (n v t : ℕ) (ds : List Dim) → rest_fault (rest_of bs) (get_or bs 1 0) ≡ None → ds ≡ dims_from (rest_of bs) 0 (get_or bs 1 0)
-      → n ≡ length ds → v ≡ volume ds → t ≡ total_chunks ds → file_fault bs ≡ directory_fault bs (4 + 8 * n) v t
-  file_shaped m n v t ds e d a p q =
-      let d' = d ∙ dims_rest bs in
-      let n' : n ≡ get_or bs 1 0 = a ∙ (ap length d' ∙ length-dims bs 4 (get_or bs 1 0)) in
-      file_marked true m ∙ (ap (λ o. or_else o (late_fault bs)) e
-      ∙ (λ i. directory_fault bs (4 + 8 * sym n' i) (sym (p ∙ ap volume d') i) (sym (q ∙ ap total_chunks d') i)))
+    pub file_shaped : file_fault bs ≡ directory_fault bs (directory_at ds) (volume ds) (total_chunks ds)
+    file_shaped =
+        let m : length ds ≡ get_or bs 1 0 = ap length told ∙ length-dims bs 4 (get_or bs 1 0) in
+        file_marked ∙ (ap (λ o. or_else o (late_fault bs)) read.0
+        ∙ (λ i. directory_fault bs (4 + 8 * sym m i) (volume (sym told i)) (total_chunks (sym told i))))
+
+    pub dims_read : Limits ds → ds ≡ file_dims bs
+    dims_read l = told ∙ sym (dims_kept bs (ap shape_fault (sym told) ∙ limits_fault ds l))

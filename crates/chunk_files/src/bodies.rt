@@ -5,14 +5,14 @@ ghost use Rattle.shapes.specs.declared.readings.Reading.{Reading as Read};
 ghost use Rattle.chunk_files.specs.Layouts.{half, word};
 ghost use Rattle.chunk_files.specs.Bodies.{offset_fits, word_fits, word_cell, pair_at, pair_fault, sparse_fault, sparse_cells, dense_fault, dense_cells, body, body_of};
 ghost use Rattle.chunk_files.specs.Contents.{lift_or, cell_value, chunk_value};
-ghost use Rattle.chunk_files.specs.Refusals.{body_fault, cause_number};
+ghost use Rattle.chunk_files.specs.Refusals.{body_fault};
 ghost use Rattle.sources.specs.Meanings.{values, read_answer, cells_of};
 ghost use Rattle.sources.specs.declared.refusals.SourceRefusal.TheVariants.{Unreadable};
 
-use crate::bytes::{half_at, word_at};
-use crate::checks::body_length;
+use crate::bytes::{bytes_from, half_at, word_at};
 use crate::entry::Entry;
 use crate::faults::{BodyCause, BodyFault};
+use crate::kind::BodyKind;
 use measures::Measure;
 use shapes::Reading;
 use sources::{SourceRefusal, empty_cells};
@@ -24,22 +24,16 @@ pub(crate) fn body_bytes(bytes: &[u8], e: Entry, cells: usize) -> &[u8]
     requires { cells ≤ 16384 }
     ensures { result.now ≡ body_of bytes.now cells e }
 {
-    let from = bytes.len().min(e.start as usize);
-    let rest = &bytes[from..];
-    let long = rest.len().min(body_length(e, cells));
-    &rest[..long]
+    let rest = bytes_from(bytes, e.start as usize);
+    rest.get(..e.body_length(cells)).unwrap_or(rest)
 }
 
 // An offset, if it is `low` at least and below `cells`.
 fn checked_offset(offset: u16, low: usize, cells: usize) -> Option<usize>
     ensures { result ≡ (if offset_fits cells low offset then Some offset else None) }
 {
-    let offset = offset as usize;
-    if low <= offset && offset < cells {
-        Some(offset)
-    } else {
-        None
-    }
+    let offset = usize::from(offset);
+    (low..cells).contains(&offset).then_some(offset)
 }
 
 // Pair k of a body, whose offset has to be `low` at least.
@@ -48,23 +42,20 @@ fn checked_pair(raw: &[u8], k: u16, low: usize, cells: usize) -> Result<(usize, 
         (λ p. (pair_fault cells k low (pair_at raw.now (6 * k)) ≡ None) × (p.0 ≡ half raw.now (6 * k)) × (p.1.value ≡ word raw.now (6 * k + 2)) × (low ≤ p.0) × (p.0 < cells))
         (λ e. pair_fault cells k low (pair_at raw.now (6 * k)) ≡ Some (body_fault e)) }
 {
-    let at = 6 * k as usize;
-    let Some(offset) = checked_offset(half_at(raw, at), low, cells) else {
-        return Err(BodyFault {
-            cause: BodyCause::Offset,
-            entry: k as u32,
-        });
-    };
-    let Some(reading) = Reading::new(word_at(raw, at + 2)) else {
-        return Err(BodyFault {
-            cause: BodyCause::Reading,
-            entry: k as u32,
-        });
-    };
+    let at = 6 * usize::from(k);
+    let entry = u32::from(k);
+    let offset = checked_offset(half_at(raw, at), low, cells).ok_or(BodyFault {
+        cause: BodyCause::Offset,
+        entry,
+    })?;
+    let reading = Reading::new(word_at(raw, at + 2)).ok_or(BodyFault {
+        cause: BodyCause::Reading,
+        entry,
+    })?;
     Ok((offset, reading))
 }
 
-// A body of kind 0, into cells that are empty.
+// A body of pairs, into cells that are empty.
 fn read_pairs<M: Measure>(raw: &[u8], count: u16, cells: &mut [M]) -> Result<(), BodyFault>
     requires fresh { cells.old ≡ replicate (length cells.old) M.empty }
     ensures { MatchResult result
@@ -91,15 +82,13 @@ fn checked_word(raw: &[u8], k: usize) -> Result<Option<Reading>, BodyFault>
     if word == EMPTY {
         return Ok(None);
     }
-    let Some(reading) = Reading::new(word) else {
-        return Err(BodyFault {
-            cause: BodyCause::Reading,
-            entry: k as u32,
-        });
-    };
-    Ok(Some(reading))
+    Reading::new(word).map(Some).ok_or(BodyFault {
+        cause: BodyCause::Reading,
+        entry: k as u32,
+    })
 }
 
+// A match, since `map_or(M::empty(), M::lift)` gets no generated proof at a type parameter.
 fn cell_of<M: Measure>(reading: Option<Reading>) -> M
     ensures { result ≡ lift_or M.empty M.lifted reading }
 {
@@ -109,14 +98,8 @@ fn cell_of<M: Measure>(reading: Option<Reading>) -> M
     }
 }
 
-// How many cells it fills.
-fn tally(reading: Option<Reading>) -> u32
-    ensures { result ≡ (if is_some reading then 1 else 0) }
-{
-    if reading.is_some() { 1 } else { 0 }
-}
-
-// A body of kind 1.
+// A body of words. That a chunk has few cells is asked here and in the two below: the cells are lent as `&mut`,
+// and a ghost field beside one gets no proof.
 fn read_words<M: Measure>(raw: &[u8], count: u16, cells: &mut [M]) -> Result<(), BodyFault>
     requires small { length cells.old ≤ 16384 }
     ensures { MatchResult result
@@ -124,12 +107,12 @@ fn read_words<M: Measure>(raw: &[u8], count: u16, cells: &mut [M]) -> Result<(),
         (λ e. dense_fault (length cells.old) count raw.now ≡ Some (body_fault e)) }
 {
     let mut full: u32 = 0;
-    for k in 0..cells.len() {
+    for (k, cell) in cells.iter_mut().enumerate() {
         let reading = checked_word(raw, k)?;
-        cells[k] = cell_of(reading);
-        full += tally(reading);
+        full += u32::from(reading.is_some());
+        *cell = cell_of(reading);
     }
-    if full != count as u32 {
+    if full != u32::from(count) {
         return Err(BodyFault {
             cause: BodyCause::Count,
             entry: cells.len() as u32,
@@ -145,20 +128,12 @@ fn read_body<M: Measure>(raw: &[u8], e: Entry, cells: &mut [M]) -> Result<(), Bo
         (λ _. chunk_value M.empty M.lifted (body (length cells.old) e raw.now) ≡ values cells.new)
         (λ f. body (length cells.old) e raw.now ≡ Err (body_fault f)) }
 {
-    if e.kind == 0 {
-        empty_cells(cells);
-        return read_pairs(raw, e.count, cells);
-    }
-    read_words(raw, e.count, cells)
-}
-
-fn cause_number(cause: BodyCause) -> u8
-    ensures { result ≡ cause_number cause }
-{
-    match cause {
-        BodyCause::Offset => 1,
-        BodyCause::Reading => 2,
-        BodyCause::Count => 3,
+    match e.body_kind() {
+        BodyKind::Pairs => {
+            empty_cells(cells);
+            read_pairs(raw, e.count, cells)
+        }
+        BodyKind::Words => read_words(raw, e.count, cells),
     }
 }
 
@@ -169,7 +144,7 @@ fn unreadable(chunk: u64, fault: BodyFault) -> SourceRefusal
     SourceRefusal::Unreadable {
         chunk,
         entry: fault.entry,
-        cause: cause_number(fault.cause),
+        cause: u8::from(fault.cause),
     }
 }
 
@@ -184,11 +159,10 @@ pub(crate) fn read_chunk<M: Measure>(
     ensures answers { result ≡ read_answer number (chunk_value M.empty M.lifted (body (length cells.old) e (body_of bytes.now (length cells.old) e))) }
     ensures fills { cells.new ≡ cells_of M.empty (length cells.old) (chunk_value M.empty M.lifted (body (length cells.old) e (body_of bytes.now (length cells.old) e))) }
 {
-    match read_body(body_bytes(bytes, e, cells.len()), e, cells) {
-        Ok(()) => Ok(()),
-        Err(fault) => {
-            empty_cells(cells);
-            Err(unreadable(number, fault))
-        }
+    // A test, since a proof knows nothing of cells that a closure in `map_err` has emptied.
+    let read = read_body(body_bytes(bytes, e, cells.len()), e, cells);
+    if read.is_err() {
+        empty_cells(cells);
     }
+    read.map_err(|fault| unreadable(number, fault))
 }

@@ -7,11 +7,14 @@ mod checks;
 mod entry;
 mod faults;
 mod file;
+mod kind;
 mod refusals;
 mod source;
 #[cfg(test)]
 mod tests;
 
 pub use entry::Entry;
+pub use faults::BodyCause;
 pub use file::ChunkFile;
-pub use refusals::FileRefusal;
+pub use kind::BodyKind;
+pub use refusals::{FileRefusal, UnknownNumber};

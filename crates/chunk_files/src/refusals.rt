@@ -20,6 +20,13 @@ pub enum FileRefusal {
     End,
 }
 
+/// A number that stands for no kind of body, or for no cause.
+#[derive(Clone, Copy, PartialEq, Eq, Debug)]
+pub struct UnknownNumber {
+    /// The number that was given.
+    pub number: u8,
+}
+
 impl From<ShapeRefusal> for FileRefusal {
     ghost from_gives = { λ x y. y ≡ of_shape x };
 

@@ -1,6 +1,8 @@
 // A file of 4 by 2 cells in two chunks, whole and damaged.
+use crate::faults::BodyCause;
 use crate::file::ChunkFile;
-use crate::refusals::FileRefusal;
+use crate::kind::BodyKind;
+use crate::refusals::{FileRefusal, UnknownNumber};
 use measures::{Measure, Total};
 use shapes::{Cause, ShapeRefusal};
 use sources::{Shaped, Source, SourceRefusal};
@@ -141,4 +143,14 @@ fn reading_0_is_a_filled_cell(rt: HostRuntime) -> Result<(), Fail> {
     assert_eq!(rt; fetched(38, 0, 0, &mut cells)?, Ok(()));
     assert_eq!(rt; cells[0], total(1, 0));
     Ok(())
+}
+
+#[test]
+fn kinds_and_causes_have_their_numbers(rt: HostRuntime) {
+    assert_eq!(rt; u8::from(BodyKind::Words), 1);
+    assert_eq!(rt; BodyKind::try_from(0u8), Ok(BodyKind::Pairs));
+    assert_eq!(rt; BodyKind::try_from(2u8), Err(UnknownNumber { number: 2 }));
+    assert_eq!(rt; u8::from(BodyCause::Count), 3);
+    assert_eq!(rt; BodyCause::try_from(1u8), Ok(BodyCause::Offset));
+    assert_eq!(rt; BodyCause::try_from(0u8), Err(UnknownNumber { number: 0 }));
 }

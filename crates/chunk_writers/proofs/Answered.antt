@@ -8,13 +8,13 @@ use Rattle.shapes.specs.declared.dims.Dim.{Dim}
 use Rattle.shapes.specs.Arrays.{volume, total_chunks}
 use Rattle.shapes.specs.Limits.{Fit}
 use Rattle.sources.specs.declared.rows.Row.{Row}
-use Rattle.sources.specs.Rows.{in_range, first_outside}
+use Rattle.sources.specs.Rows.{in_range, first_outside, refuse_row}
 use Rattle.chunk_files.specs.Layouts.{header_bytes, entry_bytes, directory_at, bodies_at}
 use Rattle.chunk_writers.specs.declared.keys.Key.{Key}
 use Rattle.chunk_writers.specs.declared.refusals.WriteRefusal.TheVariants.{Twice}
 use Rattle.chunk_writers.specs.Keys.{row_at, InRange, all_keys, Ordered, Keyed, Repeated}
 use Rattle.chunk_writers.specs.Written.{put, file_bytes, entries_of, in_chunks}
-use Rattle.chunk_writers.specs.Answers.{first_twice, room_answer, twice_answer, range_answer, write_answer, rows_checked}
+use Rattle.chunk_writers.specs.Answers.{first_twice, room_answer, twice_answer, range_answer, write_answer}
 use Rattle.chunk_writers.proofs.Filed.{length_directory, length_file, all_bodies}
 use Rattle.chunk_writers.proofs.Putting.{put_then}
 use Rattle.chunk_writers.proofs.Twice.{no_twice, one_twice, keyed}
@@ -22,9 +22,6 @@ use Rattle.chunk_files.proofs.Formed.{length_header}
 
 pub room_granted : (n room : ℕ) → room_answer n room ≡ Ok n → (n ≤ 4294967295) × (n ≤ room)
 room_granted n room h = (grind (arith, nat_tests), grind (arith, nat_tests))
-
-never : {A : Type 0} → false ≡ true → A
-never e = let z : ◌≡◌ {A = ℕ} 0 1 = cc in absurd (omega arith)
 
 -- rows that pass the check are in range
 pub in_range_from : (ds : List Dim) (i : ℕ) (rows : List Row) → first_outside ds i rows ≡ None → InRange ds rows
@@ -39,18 +36,11 @@ in_range_from ds i (r ∷ rows) h k l = go (in_range ds r) refl k l (λ e. in_ra
     go true e (suc k) l ih = ih (skip e) k (omega arith)
     go false e k l ih =
         let s : Some i ≡ None = sym (ap (λ b. cond b (first_outside ds (i + 1) rows) (Some i)) e) ∙ h in
-        let z : ◌≡◌ {A = ℕ} 0 1 = cc in absurd (omega arith)
+        absurd (cc)
 
-checked_none : (o : Option ℕ) → Ok tt ≡ rows_checked o → o ≡ None
-checked_none None h = refl
-checked_none (Some i) h = let z : ◌≡◌ {A = ℕ} 0 1 = cc in absurd (omega arith)
-
-module _ (ds : List Dim) (rows : List Row) where
-  pub rows_passed : Ok tt ≡ rows_checked (first_outside ds 0 rows) → first_outside ds 0 rows ≡ None
-  rows_passed h = checked_none (first_outside ds 0 rows) h
-
-  pub rows_in_range : Ok tt ≡ rows_checked (first_outside ds 0 rows) → InRange ds rows
-  rows_in_range h = in_range_from ds 0 rows (rows_passed h)
+pub rows_passed : (o : Option ℕ) → Ok tt ≡ refuse_row o → o ≡ None
+rows_passed None h = refl
+rows_passed (Some i) h = absurd (cc)
 
 -- the parts of a file, one after another
 pub put_file : (ds : List Dim) (css : List (List (Option ℕ))) (b₀ b₁ b₂ b₃ : List ℕ) → length css ≡ total_chunks ds → length (file_bytes ds css) ≤ length b₀
@@ -79,11 +69,11 @@ module _ (ds : List Dim) (fit : AllByRecursion Fit ds) (rows : List Row) (ks : L
   begins : (o : Option ℕ) → first_twice ds 0 [] rows ≡ o → write_answer ds rows room ≡ twice_answer o (room_answer (length (file_bytes ds (in_chunks ds rows))) room)
   begins o e = λ i. range_answer (none i) (twice_answer (e i) (room_answer (length (file_bytes ds (in_chunks ds rows))) room))
 
-  pub refused_twice : (m : ℕ) → m < length ks → Repeated ks (length ks) m → write_answer ds rows room ≡ Err (Twice m)
-  refused_twice m l R = begins (Some m) (one_twice ds fit rows ks ranged sorted.0 sorted.1 m R l)
+  pub refused_twice : (m : ℕ) → Repeated ks (Some m) → write_answer ds rows room ≡ Err (Twice m)
+  refused_twice m R = begins (Some m) (one_twice ds fit rows ks ranged sorted.0 sorted.1 m R)
 
-  pub none_twice : Repeated ks (length ks) (length ks) → write_answer ds rows room ≡ room_answer (length (file_bytes ds (in_chunks ds rows))) room
-  none_twice R = begins None (no_twice ds fit rows ks ranged sorted.0 sorted.1 (length ks) R refl)
+  pub none_twice : Repeated ks None → write_answer ds rows room ≡ room_answer (length (file_bytes ds (in_chunks ds rows))) room
+  none_twice R = begins None (no_twice ds fit rows ks ranged sorted.0 sorted.1 R)
 
-  pub sound : Repeated ks (length ks) (length ks) → Keyed ds rows ks
-  sound R = keyed ds fit rows ks ranged sorted.0 sorted.1 (length ks) R refl
+  pub sound : Repeated ks None → Keyed ds rows ks
+  sound R = keyed ds fit rows ks ranged sorted.0 sorted.1 R

@@ -1,22 +1,24 @@
 -- The directory and the bodies, chunk by chunk. Assumes nothing.
-use Rattle.std.proofs.Common.{◌≡◌, ℕ, zero, suc, ◌+◌, ◌-◌, ◌*◌, ◌<◌, ◌≤◌, Bool, true, false, cond, ltb, ◌⊎◌, List, [], ◌∷◌, ◌++◌, map, length, get_or, drop, is_some, Option, sym, refl, ap, ◌∙◌, subst, inl, inr, arith}
-use Rattle.std.specs.List.{range_with_len, flat_map, between, AllByRecursion}
+use Rattle.std.proofs.Common.{◌≡◌, ℕ, zero, suc, ◌+◌, ◌-◌, ◌*◌, ◌<◌, ◌≤◌, Bool, true, false, cond, ltb, ◌⊎◌, List, [], ◌∷◌, ◌++◌, length, get_or, drop, is_some, Option, sym, refl, ap, ◌∙◌, subst, inl, inr, arith}
+use Rattle.std.specs.List.{flat_map, AllByRecursion}
 use Rattle.std.proofs.lemmas.List.FromFn.{length-map-range_with_len, get_or-map-range_with_len}
-use Rattle.std.proofs.lemmas.List.Edits.{get_or-between}
-use Rattle.std.proofs.lemmas.List.{length-append, length-map, drop_more, drop_all, get_or_default}
+use Rattle.std.proofs.lemmas.List.{length-append, drop_more, drop_all, get_or_default}
 use Rattle.std.proofs.lemmas.List.Sums.{count_by-le-length}
 use Rattle.std.proofs.lemmas.Bool.{cond-false, le-ltb, cases_lt}
 use Rattle.shapes.specs.declared.dims.Dim.{Dim}
 use Rattle.shapes.specs.Arrays.{volume, total_chunks}
 use Rattle.shapes.specs.Limits.{Fit}
+use Rattle.shapes.specs.Views.{dims_of}
+use Rattle.shapes.proofs.Held.{all_fit}
 use Rattle.sources.specs.declared.rows.Row.{Row}
 use Rattle.chunk_files.specs.Layouts.{header_bytes, entry_bytes, bodies_at}
-use Rattle.chunk_files.specs.Bodies.{Pair, pair_bytes, cell_bytes, held}
+use Rattle.chunk_files.specs.Bodies.{pair_bytes, cell_bytes, filled}
 use Rattle.chunk_writers.specs.declared.keys.Key.{Key}
-use Rattle.chunk_writers.specs.Keys.{none_key, pair_of, Keyed, Cut, Rising}
-use Rattle.chunk_writers.specs.Segments.{Kept}
-use Rattle.chunk_writers.specs.Written.{dense, body_bytes, body_size, made_entry, entries_of, bodies_of, file_bytes, in_cell, in_chunk, in_chunks}
-use Rattle.chunk_writers.proofs.Chunked.{key_below, length_segment, chunk_filled, chunk_body}
+use Rattle.chunk_writers.specs.declared.table.Table.{Table}
+use Rattle.chunk_writers.specs.Keys.{none_key, Keyed, Cut, Rising}
+use Rattle.chunk_writers.specs.Written.{pairs_of, dense, body_bytes, body_size, entries_of, bodies_of, file_bytes, in_cell, in_chunk, in_chunks}
+use Rattle.chunk_writers.proofs.Chunked.{key_below, chunk_filled}
+use Rattle.chunk_writers.proofs.Pairing.{length_pairs_of}
 use Rattle.chunk_files.proofs.Formed.{length_header}
 
 pub length_joined : {X : Type 0} (f : X → List ℕ) (w : ℕ) → ((x : X) → length (f x) ≡ w) → (xs : List X) → length (flat_map f xs) ≡ w * length xs
@@ -47,6 +49,14 @@ length_file ds css e =
 abbrev pub left_from : List Dim → List Row → ℕ → List ℕ
 left_from ds rows j = all_bodies (volume ds) (drop j (in_chunks ds rows))
 
+-- how many bytes a body has
+pub length_body : (v : ℕ) (cs : List (Option ℕ)) → length cs ≡ v → length (body_bytes v cs) ≡ body_size v (filled cs)
+length_body v cs long = go (dense v (filled cs))
+  where
+    go : (b : Bool) → length (cond b (flat_map cell_bytes cs) (flat_map pair_bytes (pairs_of 0 cs))) ≡ cond b (4 * v) (6 * filled cs)
+    go true = let a = length_joined cell_bytes 4 (λ x. refl) cs in omega arith
+    go false = let a = length_joined pair_bytes 6 (λ x. refl) (pairs_of 0 cs) in let b = length_pairs_of 0 cs in omega arith
+
 size_none : (v : ℕ) → body_size v 0 ≡ 0
 size_none v = cond-false (ltb (v * 2) 0) (4 * v) 0 (le-ltb (v * 2) 0 (omega arith))
 
@@ -67,7 +77,23 @@ cut_ends ks j k e up A l w inside out = record {
     same : (p : ℕ) (d : Key) → p < length ks → (get_or ks p d).chunk ≡ (get_or ks p none_key).chunk
     same p d m = ap (λ (k : Key). k.chunk) (get_or_default ks p d none_key m)
 
-module _ (ds : List Dim) (fit : AllByRecursion Fit ds) (small : volume ds ≤ 16384) (rows : List Row) (ks : List Key) (K : Keyed ds rows ks) where
+-- of a table
+module _ (t : Table) where
+  abbrev ds : List Dim
+  ds = dims_of t.shape
+
+  abbrev rows : List Row
+  rows = t.rows.now
+
+  abbrev ks : List Key
+  ks = t.keys.now
+
+  pub fit : AllByRecursion Fit (dims_of t.shape)
+  fit = all_fit t.shape
+
+  pub keyed : Keyed (dims_of t.shape) t.rows.now t.keys.now
+  keyed = record { ranged = t.ranged; each = t.each; every = t.every; rises = t.rises }
+
   abbrev css : List (List (Option ℕ))
   css = in_chunks ds rows
 
@@ -83,14 +109,14 @@ module _ (ds : List Dim) (fit : AllByRecursion Fit ds) (small : volume ds ≤ 16
 
   pub rising : Rising ks
   rising p q d l m = elim (cases_lt p q) [
-    | inl h ↦ elim (K.rises p q d h m) [ inl a ↦ omega arith | inr a ↦ let b = a.0 in omega arith ]
+    | inl h ↦ (t.rises p q d h m).0
     | inr h ↦ let e : p ≡ q = omega arith in let f = ap (λ n. (get_or ks n d).chunk) e in omega arith
   ]
 
   last_cut : Cut ks (total_chunks ds) (length ks)
-  last_cut = record { within = omega arith; before = λ p d l. (key_below ds fit rows ks K p d l).0; after = λ p d l m. absurd (omega arith) }
+  last_cut = record { within = omega arith; before = λ p d l. (key_below ds fit rows ks keyed p d l).0; after = λ p d l m. absurd (omega arith) }
 
-  css_more : (j : ℕ) → j < total_chunks ds → drop j css ≡ in_chunk ds rows j ∷ drop (j + 1) css
+  pub css_more : (j : ℕ) → j < total_chunks ds → drop j css ≡ in_chunk ds rows j ∷ drop (j + 1) css
   css_more j l =
       let n = length_css in
       drop_more css j [] (omega arith) ∙ ap (λ (cs : List (Option ℕ)). cs ∷ drop (j + 1) css) (get_or-map-range_with_len (in_chunk ds rows) 0 (total_chunks ds) j j [] l (omega arith))
@@ -101,55 +127,25 @@ module _ (ds : List Dim) (fit : AllByRecursion Fit ds) (small : volume ds ≤ 16
   pub left_all : left (total_chunks ds) ≡ []
   left_all = let n = length_css in ap (all_bodies (volume ds)) (drop_all (total_chunks ds) css (omega arith))
 
+  pub left_more : (j : ℕ) → j < total_chunks ds → left j ≡ body_bytes (volume ds) (in_chunk ds rows j) ++ left (j + 1)
+  left_more j l = ap (all_bodies (volume ds)) (css_more j l)
+
   module _ (j k e : ℕ) (l : j < total_chunks ds) (A : Cut ks j k) (B : Cut ks (j + 1) e) where
     length_chunk : length (in_chunk ds rows j) ≡ volume ds
     length_chunk = length-map-range_with_len (in_cell ds rows j) 0 (volume ds)
 
     pub few_keys : e - k ≤ volume ds
     few_keys =
-        let a = chunk_filled ds fit rows ks K j k e A B in
+        let a = chunk_filled ds fit rows ks keyed j k e A B in
         let b = count_by-le-length is_some (in_chunk ds rows j) in
         let d = length_chunk in
         omega arith
 
-    pub kept_segment : Kept rows (between k e ks)
-    kept_segment p d m =
-        let n = length_segment ds fit rows ks K j k e A B in
-        let w = B.within in
-        let is : get_or (between k e ks) p d ≡ get_or ks (k + p) d = get_or-between ks k e p d (omega arith) in
-        let there : k + p < length ks = omega arith in
-        let r = ap (λ (y : Key). y.row) is in
-        let o = ap (λ (y : Key). y.offset) is in
-        let a = (K.each (k + p) d there).0 in
-        let b = (key_below ds fit rows ks K (k + p) d there).1 in
-        (omega arith, omega arith)
-
-    body_length_is : length (body_bytes (volume ds) (in_chunk ds rows j)) ≡ body_size (volume ds) (e - k)
-    body_length_is = ap length (chunk_body ds fit rows ks K j k e A B) ∙ go (dense (volume ds) (e - k))
-      where
-        P : List Pair
-        P = map (pair_of rows) (between k e ks)
-
-        words : length (flat_map cell_bytes (map (held (map (pair_of rows) (between k e ks))) (range_with_len 0 (volume ds)))) ≡ 4 * volume ds
-        words = length_joined cell_bytes 4 (λ x. refl) (map (held (map (pair_of rows) (between k e ks))) (range_with_len 0 (volume ds))) ∙ ap (λ n. 4 * n) (length-map-range_with_len (held (map (pair_of rows) (between k e ks))) 0 (volume ds))
-
-        pairs : length (flat_map pair_bytes (map (pair_of rows) (between k e ks))) ≡ 6 * (e - k)
-        pairs = length_joined pair_bytes 6 (λ x. refl) (map (pair_of rows) (between k e ks)) ∙ ap (λ n. 6 * n) (length-map (between k e ks) (pair_of rows) ∙ length_segment ds fit rows ks K j k e A B)
-
-        go : (b : Bool) → length (cond b (flat_map cell_bytes (map (held (map (pair_of rows) (between k e ks))) (range_with_len 0 (volume ds)))) (flat_map pair_bytes (map (pair_of rows) (between k e ks)))) ≡ cond b (4 * volume ds) (6 * (e - k))
-        go true = words
-        go false = pairs
-
-    pub left_more : left j ≡ cond (dense (volume ds) (e - k)) (flat_map cell_bytes (map (held (map (pair_of rows) (between k e ks))) (range_with_len 0 (volume ds)))) (flat_map pair_bytes (map (pair_of rows) (between k e ks))) ++ left (j + 1)
-    left_more = ap (all_bodies (volume ds)) (css_more j l) ∙ ap (λ (b : List ℕ). b ++ left (j + 1)) (chunk_body ds fit rows ks K j k e A B)
-
-    pub left_length : length (left j) ≡ body_size (volume ds) (e - k) + length (left (j + 1))
-    left_length = ap (λ (cs : List (List (Option ℕ))). length (all_bodies (volume ds) cs)) (css_more j l) ∙ length-append (body_bytes (volume ds) (in_chunk ds rows j)) (left (j + 1)) ∙ ap (λ n. n + length (left (j + 1))) body_length_is
-
-    pub entries_more : (at : ℕ) → entries_of (volume ds) at (drop j (in_chunks ds rows)) ≡ made_entry (volume ds) at (e - k) ∷ entries_of (volume ds) (at + body_size (volume ds) (e - k)) (drop (j + 1) (in_chunks ds rows))
-    entries_more at =
-        ap (entries_of (volume ds) at) (css_more j l)
-        ∙ (λ i. made_entry (volume ds) at (chunk_filled ds fit rows ks K j k e A B i) ∷ entries_of (volume ds) (at + body_length_is i) (drop (j + 1) (in_chunks ds rows)))
+    length_left : length (left j) ≡ body_size (volume ds) (e - k) + length (left (j + 1))
+    length_left =
+        let a = ap length (left_more j l) ∙ length-append (body_bytes (volume ds) (in_chunk ds rows j)) (left (j + 1)) in
+        let b = length_body (volume ds) (in_chunk ds rows j) length_chunk ∙ ap (body_size (volume ds)) (chunk_filled ds fit rows ks keyed j k e A B) in
+        omega arith
 
   -- chunks that have no key have no body
   skip : (m c k : ℕ) → c + m ≤ total_chunks ds → Cut ks c k → Cut ks (c + m) k → length (left c) ≡ length (left (c + m))
@@ -157,7 +153,7 @@ module _ (ds : List Dim) (fit : AllByRecursion Fit ds) (small : volume ds ≤ 16
   skip (suc m) c k l A B =
       let e : c + 1 + m ≡ c + suc m = omega arith in
       let next : Cut ks (c + 1) k = record { within = A.within; before = λ p d g. (let a = A.before p d g in omega arith); after = λ p d g h. (let b = B.after p d g h in omega arith) } in
-      let here = left_length c k k (omega arith) A next in
+      let here = length_left c k k (omega arith) A next in
       let none : body_size (volume ds) (k - k) ≡ 0 = ap (body_size (volume ds)) (let z : k - k ≡ 0 = omega arith in z) ∙ size_none (volume ds) in
       let rest = skip m (c + 1) k (omega arith) next (subst (λ n. Cut ks n k) (sym e) B) in
       let same = ap (λ n. length (left n)) e in
@@ -175,5 +171,5 @@ module _ (ds : List Dim) (fit : AllByRecursion Fit ds) (small : volume ds ≤ 16
       let up = A.after k none_key (omega arith) l in (
         record { within = A.within; before = λ p d g. (let a = A.before p d g in omega arith); after = λ p d g m. (let a = rising k p none_key g m in let b = ap (λ (y : Key). y.chunk) (get_or_default ks p d none_key m) in omega arith) },
         up,
-        (key_below ds fit rows ks K k none_key l).0,
+        (key_below ds fit rows ks keyed k none_key l).0,
       )

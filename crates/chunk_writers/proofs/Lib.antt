@@ -1,9 +1,11 @@
 pub mod Sorting
 pub mod Pairing
 pub mod Chunked
+pub mod Neighbours
 pub mod Twice
 pub mod Putting
 pub mod Segmented
+pub mod Worded
 pub mod Filed
 pub mod Tabled
 pub mod Answered

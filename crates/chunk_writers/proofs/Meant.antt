@@ -23,10 +23,10 @@ use mathlib.Core.List.{map-map}
 
 none_first : (rs : List Row) → is_some (first_of (map (λ (r : Row). r.reading) rs)) ≡ false → length rs ≡ 0
 none_first [] h = refl
-none_first (r ∷ rs) h = let z : ◌≡◌ {A = ℕ} 0 1 = cc in absurd (omega arith)
+none_first (r ∷ rs) h = absurd (cc)
 
 taken_not : {X : Type 0} (b : Bool) (i : X) (o : Option X) → cond b (Some i) o ≡ None → (b ≡ false) × (o ≡ None)
-taken_not true i o h = let z : ◌≡◌ {A = ℕ} 0 1 = cc in absurd (omega arith)
+taken_not true i o h = absurd (cc)
 taken_not false i o h = (refl, h)
 
 -- where no row is on a taken cell, a cell has one row at most

@@ -19,8 +19,8 @@ use Rattle.chunk_writers.proofs.Trips.{read_back}
 
 answered : (o p : Option ℕ) (x : Result ℕ WriteRefusal) (n : ℕ) → Ok n ≡ range_answer o (twice_answer p x) → (o ≡ None) × (p ≡ None) × (Ok n ≡ x)
 answered None None x n h = (refl, refl, h)
-answered None (Some i) x n h = let z : ◌≡◌ {A = ℕ} 0 1 = cc in absurd (omega arith)
-answered (Some i) p x n h = let z : ◌≡◌ {A = ℕ} 0 1 = cc in absurd (omega arith)
+answered None (Some i) x n h = absurd (cc)
+answered (Some i) p x n h = absurd (cc)
 
 granted : (size room n : ℕ) → Ok n ≡ room_answer size room → (n ≡ size) × (size ≤ 4294967295) × (size ≤ room)
 granted size room n h = (grind (arith, nat_tests), grind (arith, nat_tests), grind (arith, nat_tests))
@@ -50,15 +50,12 @@ module _ (s : Shape) (rows : List Row) (out out' : List ℕ) (room n : ℕ) (h :
 abbrev Told : Shape → List Row → ℕ → Result ℕ WriteRefusal → Type 0
 Told s rows room r = (r ≡ write_answer (dims_of s) rows room) ⊎ ((r ≡ Err Memory) × (first_outside (dims_of s) 0 rows ≡ None))
 
-never : {A : Type 0} (n : ℕ) (e : WriteRefusal) → ◌≡◌ {A = Result ℕ WriteRefusal} (Ok n) (Err e) → A
-never n e h = let z : ◌≡◌ {A = ℕ} 0 1 = cc in absurd (omega arith)
-
 pub written_trip : (s : Shape) (rows : List Row) (out out' : List ℕ) (room : ℕ) (r : Result ℕ WriteRefusal) → Told s rows room r → out' ≡ bytes_after (dims_of s) rows out r → IfOk r (λ n. ReadBack (dims_of s) rows (take n out'))
 written_trip s rows out out' room (Err e) h b = tt
-written_trip s rows out out' room (Ok n) (inr h) b = never n Memory h.0
+written_trip s rows out out' room (Ok n) (inr h) b = let e = h.0 in absurd (cc)
 written_trip s rows out out' room (Ok n) (inl h) b = trip_there s rows out out' room n h b
 
 pub written_is : (s : Shape) (rows : List Row) (out out' : List ℕ) (room : ℕ) (r : Result ℕ WriteRefusal) → Told s rows room r → out' ≡ bytes_after (dims_of s) rows out r → IfOk r (λ n. WrittenOf (dims_of s) rows (take n out'))
 written_is s rows out out' room (Err e) h b = tt
-written_is s rows out out' room (Ok n) (inr h) b = never n Memory h.0
+written_is s rows out out' room (Ok n) (inr h) b = let e = h.0 in absurd (cc)
 written_is s rows out out' room (Ok n) (inl h) b = written_there s rows out out' room n h b

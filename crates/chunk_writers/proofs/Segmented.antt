@@ -1,63 +1,72 @@
 -- The body of a chunk, key by key. Assumes nothing.
-use Rattle.std.proofs.Common.{◌≡◌, ℕ, suc, ◌+◌, ◌<◌, ◌≤◌, Bool, true, false, cond, eqb, List, [], ◌∷◌, ◌++◌, map, length, get_or, drop, sym, refl, ap, ◌∙◌, subst, arith}
-use Rattle.std.specs.List.{range_with_len, flat_map}
-use Rattle.std.proofs.lemmas.List.{at_drop_more, at_drop_all, drop_more, drop_all}
-use Rattle.std.proofs.lemmas.Bool.{eq-eqb, ne_eqb, eqb-true, eqb-false, cond-true, cond-false}
-use Rattle.sources.specs.declared.rows.Row.{Row}
-use Rattle.chunk_files.specs.Layouts.{le4}
-use Rattle.chunk_files.specs.Bodies.{pair_bytes, cell_bytes, held}
-use Rattle.chunk_writers.specs.declared.keys.Key.{Key}
-use Rattle.chunk_writers.specs.Keys.{none_key, row_at, pair_of}
-use Rattle.chunk_writers.specs.Segments.{Climb, Climbs, first_word, past}
-use Rattle.chunk_writers.proofs.Pairing.{held_first, held_rest, held_below}
+use Rattle.std.proofs.Common.{◌≡◌, ℕ, ◌+◌, ◌*◌, ◌≤◌, Bool, true, false, cond, map, length, sym, refl, ap, ◌∙◌, subst, arith}
+use Rattle.std.specs.List.{flat_map}
+use Rattle.std.proofs.lemmas.Bool.{ltb-true, cond-true, cond-false}
+use Rattle.std.proofs.lemmas.List.{length-map}
+use Rattle.std.proofs.lemmas.List.FromFn.{length-map-range_with_len}
+use Rattle.chunk_files.specs.Bodies.{pair_bytes, cell_bytes, held, filled}
+use Rattle.chunk_writers.specs.declared.bodies.Body.{Body}
+use Rattle.chunk_files.specs.declared.kind.BodyKind.TheVariants.{Pairs, Words}
+use Rattle.chunk_writers.specs.Keys.{pair_of}
+use Rattle.chunk_files.specs.Kinds.{kind_number}
+use Rattle.chunk_writers.specs.Kinds.{made_kind}
+use Rattle.chunk_writers.specs.Segments.{Climb}
+use Rattle.chunk_writers.specs.Tables.{cells_of}
+use Rattle.chunk_writers.specs.Written.{pairs_of, dense, body_bytes}
+use Rattle.chunk_writers.proofs.Filed.{length_joined}
+use Rattle.chunk_writers.proofs.Pairing.{climb_from, pairs_held, length_pairs_of}
 
-module _ (rows : List Row) (ks : List Key) (p x : ℕ) where
-  module _ (l : p < length ks) where
-    pub word_here : (get_or ks p none_key).offset ≡ x → ((row_at rows (get_or ks p none_key).row).reading ≡ first_word rows x (drop p ks)) × (drop (p + 1) ks ≡ past x (drop p ks))
-    word_here e =
-        let k = get_or ks p none_key in
-        let t = eq-eqb k.offset x e in (
-          sym (at_drop_more (first_word rows x) ks p none_key l ∙ cond-true (eqb k.offset x) (row_at rows k.row).reading 4294967295 t),
-          sym (at_drop_more (past x) ks p none_key l ∙ cond-true (eqb k.offset x) (drop (p + 1) ks) (k ∷ drop (p + 1) ks) t),
-        )
-
-    pub word_later : ((get_or ks p none_key).offset ≡ x → ⊥) → (4294967295 ≡ first_word rows x (drop p ks)) × (drop p ks ≡ past x (drop p ks))
-    word_later ne =
-        let k = get_or ks p none_key in
-        let t = ne_eqb k.offset x ne in (
-          sym (at_drop_more (first_word rows x) ks p none_key l ∙ cond-false (eqb k.offset x) (row_at rows k.row).reading 4294967295 t),
-          sym (at_drop_more (past x) ks p none_key l ∙ cond-false (eqb k.offset x) (drop (p + 1) ks) (k ∷ drop (p + 1) ks) t ∙ sym (drop_more ks p none_key l)),
-        )
-
-  pub word_none : length ks ≤ p → (4294967295 ≡ first_word rows x (drop p ks)) × (drop p ks ≡ past x (drop p ks))
-  word_none l = (sym (at_drop_all (first_word rows x) ks p l), drop_all p ks l ∙ sym (at_drop_all (past x) ks p l))
-
--- one word more
-pub words_step : (rows : List Row) (x v n : ℕ) (ks : List Key) → Climbs rows x v ks → v ≡ x + suc n
-    → Climbs rows (x + 1) v (past x ks)
-    × (flat_map cell_bytes (map (held (map (pair_of rows) ks)) (range_with_len x (suc n))) ≡ le4 (first_word rows x ks) ++ flat_map cell_bytes (map (held (map (pair_of rows) (past x ks))) (range_with_len (x + 1) n)))
-words_step rows x v n [] c e = (tt, refl)
-words_step rows x v n (k ∷ ks) c e = go (eqb k.offset x) refl
+-- the kind of a body
+pairs_made : (v n : ℕ) → Pairs ≡ made_kind v n → dense v n ≡ false
+pairs_made v n h = go (dense v n) refl h
   where
-    go : (b : Bool) → eqb k.offset x ≡ b → Climbs rows (x + 1) v (cond (eqb k.offset x) ks (k ∷ ks))
-        × (flat_map cell_bytes (map (held (map (pair_of rows) (k ∷ ks))) (range_with_len x (suc n))) ≡ le4 (cond (eqb k.offset x) (row_at rows k.row).reading 4294967295) ++ flat_map cell_bytes (map (held (map (pair_of rows) (cond (eqb k.offset x) ks (k ∷ ks)))) (range_with_len (x + 1) n)))
-    go true h =
-        let is = eqb-true k.offset x h in
-        let P = map (pair_of rows) ks in (
-          subst (λ b. Climbs rows (x + 1) v (cond b ks (k ∷ ks))) (sym h) (subst (λ o. Climb (o + 1) v P) is c.2),
-          (λ i. cell_bytes (held_first (pair_of rows k) P x is i) ++ flat_map cell_bytes (held_rest (pair_of rows k) P (x + 1) n (omega arith) i))
-              ∙ (λ i. le4 (cond (sym h i) (row_at rows k.row).reading 4294967295) ++ flat_map cell_bytes (map (held (map (pair_of rows) (cond (sym h i) ks (k ∷ ks)))) (range_with_len (x + 1) n))),
-        )
-    go false h =
-        let ne = eqb-false k.offset x h in
-        let a = c.0 in
-        let b = c.1 in
-        let P = map (pair_of rows) (k ∷ ks) in
-        let up : Climb (x + 1) v P = (omega arith, c.1, c.2) in (
-          subst (λ b. Climbs rows (x + 1) v (cond b ks (k ∷ ks))) (sym h) up,
-          (λ i. cell_bytes (held_below P (x + 1) v x up (omega arith) i) ++ flat_map cell_bytes (map (held P) (range_with_len (x + 1) n)))
-              ∙ (λ i. le4 (cond (sym h i) (row_at rows k.row).reading 4294967295) ++ flat_map cell_bytes (map (held (map (pair_of rows) (cond (sym h i) ks (k ∷ ks)))) (range_with_len (x + 1) n))),
-        )
+    go : (b : Bool) → dense v n ≡ b → Pairs ≡ cond b Words Pairs → dense v n ≡ false
+    go true e h = cc
+    go false e h = e
 
-pub pairs_step : (rows : List Row) (ks : List Key) (i : ℕ) → i < length ks → flat_map pair_bytes (map (pair_of rows) (drop i ks)) ≡ pair_bytes (pair_of rows (get_or ks i none_key)) ++ flat_map pair_bytes (map (pair_of rows) (drop (i + 1) ks))
-pairs_step rows ks i l = ap (λ (xs : List Key). flat_map pair_bytes (map (pair_of rows) xs)) (drop_more ks i none_key l)
+words_made : (v n : ℕ) → Words ≡ made_kind v n → dense v n ≡ true
+words_made v n h = go (dense v n) refl h
+  where
+    go : (b : Bool) → dense v n ≡ b → Words ≡ cond b Words Pairs → dense v n ≡ true
+    go true e h = e
+    go false e h = cc
+
+pub number_made : (v n : ℕ) → kind_number (made_kind v n) ≡ cond (dense v n) 1 0
+number_made v n = go (dense v n)
+  where
+    go : (b : Bool) → kind_number (cond b Words Pairs) ≡ cond b 1 0
+    go true = refl
+    go false = refl
+
+module _ (b : Body) where
+  pub body_climbs : Climb 0 b.cells (map (pair_of b.rows.now) b.keys.now)
+  body_climbs = climb_from b.rows.now b.keys.now 0 b.cells (λ p d l. (omega arith, (b.kept p d l).1)) b.climbs
+
+  pub body_pairs : pairs_of 0 (cells_of b) ≡ map (pair_of b.rows.now) b.keys.now
+  body_pairs =
+      let high : b.cells ≡ 0 + b.cells = omega arith in
+      pairs_held b.cells 0 (map (pair_of b.rows.now) b.keys.now) (subst (λ h. Climb 0 h (map (pair_of b.rows.now) b.keys.now)) high body_climbs)
+
+  long_pairs : length (pairs_of 0 (cells_of b)) ≡ length b.keys.now
+  long_pairs = ap length body_pairs ∙ length-map b.keys.now (pair_of b.rows.now)
+
+  pub body_filled : filled (cells_of b) ≡ length b.keys.now
+  body_filled = sym (length_pairs_of 0 (cells_of b)) ∙ long_pairs
+
+  -- of either kind
+  module _ (h : Pairs ≡ made_kind b.cells (filled (cells_of b))) where
+    pub pairs_bytes : body_bytes b.cells (cells_of b) ≡ flat_map pair_bytes (pairs_of 0 (cells_of b))
+    pairs_bytes = cond-false (dense b.cells (filled (cells_of b))) (flat_map cell_bytes (cells_of b)) (flat_map pair_bytes (pairs_of 0 (cells_of b))) (pairs_made b.cells (filled (cells_of b)) h)
+
+    pub pairs_size : length (body_bytes b.cells (cells_of b)) ≡ 6 * length b.keys.now
+    pairs_size = ap length pairs_bytes ∙ length_joined pair_bytes 6 (λ x. refl) (pairs_of 0 (cells_of b)) ∙ ap (λ n. 6 * n) long_pairs
+
+  module _ (h : Words ≡ made_kind b.cells (filled (cells_of b))) where
+    pub words_bytes : body_bytes b.cells (cells_of b) ≡ flat_map cell_bytes (cells_of b)
+    words_bytes = cond-true (dense b.cells (filled (cells_of b))) (flat_map cell_bytes (cells_of b)) (flat_map pair_bytes (pairs_of 0 (cells_of b))) (words_made b.cells (filled (cells_of b)) h)
+
+    pub words_size : length (body_bytes b.cells (cells_of b)) ≡ 4 * b.cells
+    words_size = ap length words_bytes ∙ length_joined cell_bytes 4 (λ x. refl) (cells_of b) ∙ ap (λ n. 4 * n) (length-map-range_with_len (held (map (pair_of b.rows.now) b.keys.now)) 0 b.cells)
+
+    pub words_many : 4 * b.cells ≤ 10 * length b.keys.now
+    words_many = let m = ltb-true (b.cells * 2) (filled (cells_of b) * 5) (words_made b.cells (filled (cells_of b)) h) in let f = body_filled in omega arith

@@ -20,7 +20,7 @@ use Rattle.chunk_writers.specs.Keys.{row_at, InRange}
 use Rattle.chunk_writers.specs.Written.{pairs_of, dense, body_bytes, made_entry, entries_of, bodies_of, file_bytes, in_cell, in_chunk, in_chunks}
 use Rattle.chunk_writers.specs.Trips.{ReadBack}
 use Rattle.chunk_writers.proofs.Pairing.{length_pairs_of, first_cases}
-use Rattle.chunk_writers.proofs.Filed.{length_joined, length_entries_of, length_file, all_bodies}
+use Rattle.chunk_writers.proofs.Filed.{length_body, length_entries_of, length_file, all_bodies}
 
 abbrev pub Small : Option ℕ → Type 0
 Small None = Unit {0}
@@ -134,11 +134,11 @@ module _ (v : ℕ) (cs : List (Option ℕ)) (long : length cs ≡ v) (few : v �
   few_filled = let a = count_by-le-length is_some cs in omega arith
 
   pub body_sized : (at : ℕ) → length (body_bytes v cs) ≡ body_length v (made_entry v at (filled cs))
-  body_sized at = go (dense v (filled cs))
+  body_sized at = length_body v cs long ∙ go (dense v (filled cs))
     where
-      go : (b : Bool) → length (cond b (flat_map cell_bytes cs) (flat_map pair_bytes (pairs_of 0 cs))) ≡ body_length v (record { start = at; count = filled cs; kind = cond b 1 0; spare = 0 })
-      go true = let a = length_joined cell_bytes 4 (λ x. refl) cs in omega arith
-      go false = let a = length_joined pair_bytes 6 (λ x. refl) (pairs_of 0 cs) in let b = length_pairs_of 0 cs in omega arith
+      go : (b : Bool) → cond b (4 * v) (6 * filled cs) ≡ body_length v (record { start = at; count = filled cs; kind = cond b 1 0; spare = 0 })
+      go true = refl
+      go false = refl
 
   pub entry_right : (at : ℕ) → at < 2 ^ 32 → Right v at (made_entry v at (filled cs))
   entry_right at l = record { starts = refl; kinds = go (dense v (filled cs)); counts = few_filled; spares = refl; short = l }

@@ -38,8 +38,3 @@ file_after file out (Err e) = out
 
 abbrev pub bytes_after : List Dim → List Row → List ℕ → Result ℕ WriteRefusal → List ℕ
 bytes_after ds rows out r = file_after (file_bytes ds (in_chunks ds rows)) out r
-
--- what a check of the rows alone answers
-abbrev pub rows_checked : Option ℕ → Result (Unit {0}) WriteRefusal
-rows_checked None = Ok tt
-rows_checked (Some i) = Err (OutOfRange i)

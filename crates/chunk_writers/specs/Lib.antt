@@ -1,6 +1,7 @@
 pub mod Keys
 pub mod Segments
 pub mod Written
+pub mod Kinds
 pub mod Tables
 pub mod Answers
 pub mod Refusals

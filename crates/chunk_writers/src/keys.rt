@@ -1,5 +1,5 @@
 // A key for each row: its cell and its number.
-ghost use Rattle.std.specs.Prelude.{◌≡◌, ℕ, ◌+◌, ◌<◌, ◌≤◌, min, true, ◌&&◌, length, IfOk, if◌then◌else◌, vec_len, ◌==◌, nat_eq};
+ghost use Rattle.std.specs.Prelude.{◌≡◌, true, IfOk, ◌==◌, ◌&&◌};
 ghost use Rattle.std.specs.List.Sorted.{IsPermutation};
 ghost use Rattle.shapes.specs.Arrays.{storage, offset as offset_in};
 ghost use Rattle.shapes.specs.Views.{dims_of};
@@ -18,26 +18,36 @@ pub(crate) struct Key {
     pub(crate) row: usize,
 }
 
-// The key of a row that is in range, and has this number.
-fn key_of(shape: &Shape, row: Row, number: usize) -> Key
-    requires { in_range (dims_of shape.now) row ≡ true }
-    ensures { result ≡ record { chunk = storage (dims_of shape.now) row.at; offset = offset_in (dims_of shape.now) row.at; row = number } }
-{
-    Key {
-        chunk: shape.storage_number(shape.chunk_of(row.at)).unwrap_or(0),
-        offset: shape.offset(shape.local_of(row.at)).unwrap_or(0),
-        row: number,
+impl Key {
+    // The key of a row that is in range, and has this number.
+    fn new(shape: &Shape, row: Row, number: usize) -> Key
+        requires { in_range (dims_of shape.now) row ≡ true }
+        ensures { result ≡ record { chunk = storage (dims_of shape.now) row.at; offset = offset_in (dims_of shape.now) row.at; row = number } }
+    {
+        let (chunk, offset) = row.place(shape).unwrap_or((0, 0));
+        Key {
+            chunk,
+            offset,
+            row: number,
+        }
+    }
+
+    fn is_on_cell_of(&self, other: &Key) -> bool
+        ensures { result ≡ (self.now.chunk == other.now.chunk && self.now.offset == other.now.offset) }
+    {
+        (self.chunk, self.offset) == (other.chunk, other.offset)
     }
 }
 
-// The keys of rows that are in range, in the order of the rows.
+// The keys of rows that are in range, in the order of the rows. They are pushed and not collected: `with_capacity` takes
+// room for just these, and `collect` promises none.
 fn keys_of(heap: Global, shape: &Shape, rows: &[Row]) -> Result<Vec<Key>, AllocError>
     requires { InRange (dims_of shape.now) rows.now }
     ensures { IfOk result (λ v. v.items ≡ all_keys (dims_of shape.now) rows.now) }
 {
     let mut keys = Vec::with_capacity(heap, rows.len())?;
-    for i in 0..rows.len() {
-        keys.push(key_of(shape, rows[i], i))?;
+    for (number, row) in rows.iter().enumerate() {
+        keys.push(Key::new(shape, *row, number))?;
     }
     Ok(keys)
 }
@@ -60,24 +70,13 @@ pub(crate) fn sorted_keys(heap: Global, shape: &Shape, rows: &[Row]) -> Result<V
     Ok(keys)
 }
 
-// The lesser of `least` and the row of `second`, where that lies on the cell of `first`.
-fn least_second(least: usize, first: Key, second: Key) -> usize
-    ensures { result ≡ (if nat_eq first.chunk second.chunk && first.offset == second.offset then min least second.row else least) }
+// Of keys by rising cell, the least row that comes second on a cell.
+pub(crate) fn least_repeated(keys: &[Key]) -> Option<usize>
+    ensures { Repeated keys.now result }
 {
-    if first.chunk == second.chunk && first.offset == second.offset {
-        least.min(second.row)
-    } else {
-        least
-    }
-}
-
-// Of keys by rising cell, the least row that comes second on a cell; or the number of keys where none does.
-pub(crate) fn least_repeated(keys: &[Key]) -> usize
-    ensures { Repeated keys.now (length keys.now) result }
-{
-    let mut least = keys.len();
-    for i in 1..keys.len() {
-        least = least_second(least, keys[i - 1], keys[i]);
-    }
-    least
+    keys.iter()
+        .zip(keys.iter().skip(1))
+        .filter(|(first, second)| second.is_on_cell_of(first))
+        .map(|(_, second)| second.row)
+        .min()
 }

@@ -1,9 +1,10 @@
 // What stops a write.
 ghost use Rattle.std.specs.Prelude.{◌≡◌};
 ghost use Rattle.chunk_writers.specs.Refusals.{write_refusal};
-ghost use Rattle.chunk_writers.specs.declared.refusals.WriteRefusal.TheVariants.{Memory as no_memory};
+ghost use Rattle.chunk_writers.specs.declared.refusals.WriteRefusal.TheVariants.{Memory as no_memory, Row as out_of_range};
 
 use shapes::Cause;
+use sources::RowRefusal;
 use std::alloc::AllocError;
 
 /// Why rows are not written.
@@ -26,6 +27,14 @@ impl From<AllocError> for WriteRefusal {
 
     fn from(_e: AllocError) -> WriteRefusal {
         WriteRefusal::Memory
+    }
+}
+
+impl From<RowRefusal> for WriteRefusal {
+    ghost from_gives = { λ x y. y ≡ out_of_range x.row };
+
+    fn from(e: RowRefusal) -> WriteRefusal {
+        WriteRefusal::Row(e.row)
     }
 }
 

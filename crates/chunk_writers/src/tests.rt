@@ -6,6 +6,7 @@ use measures::Total;
 use shapes::{Cause, Dim, Shape, ShapeRefusal};
 use sources::{Row, Source};
 use std::alloc::Global;
+use std::array;
 use std::test::Fail;
 
 fn cut(size: u32, edge: u32) -> Dim {
@@ -74,10 +75,7 @@ fn a_full_chunk_has_words(rt: HostRuntime) -> Result<(), Fail> {
 #[test]
 fn many_rows_in_falling_order(rt: HostRuntime) -> Result<(), Fail> {
     let dims = [cut(64, 64)];
-    let mut rows = [row(0, 0, 0); 64];
-    for i in 0..64 {
-        rows[i] = row(63 - i as u32, 0, i as u32);
-    }
+    let mut rows: [Row; 64] = array::from_fn(|i| row(63 - i as u32, 0, i as u32));
     let mut out = [9; 276];
     assert_eq!(rt; answer(rt.alloc(), &dims, &rows, &mut out)?, Ok(276));
     assert!(rt; out[12..20] == [20, 0, 0, 0, 64, 0, 1, 0]);

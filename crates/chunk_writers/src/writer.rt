@@ -2,41 +2,19 @@
 ghost use Rattle.std.specs.Prelude.{◌≡◌, ℕ, ◌<◌, ◌≤◌, ◌⊎◌, length, take, IfOk, None, Ok, Err, MatchResult};
 ghost use Rattle.shapes.specs.Views.{dims_of};
 ghost use Rattle.sources.specs.Rows.{first_outside};
-ghost use Rattle.chunk_writers.specs.declared.refusals.WriteRefusal.TheVariants.{Memory as no_memory, Twice as twice};
-ghost use Rattle.chunk_writers.specs.Keys.{Repeated};
+ghost use Rattle.chunk_writers.specs.declared.refusals.WriteRefusal.TheVariants.{Memory as no_memory};
 ghost use Rattle.chunk_writers.specs.Trips.{ReadBack, WrittenOf};
-ghost use Rattle.chunk_writers.specs.Tables.{Sound, cells_in};
+ghost use Rattle.chunk_writers.specs.Tables.{cells_in};
 ghost use Rattle.chunk_writers.specs.Written.{file_bytes};
-ghost use Rattle.chunk_writers.specs.Answers.{rows_checked, room_answer, write_answer, bytes_after, file_after};
+ghost use Rattle.chunk_writers.specs.Answers.{room_answer, write_answer, bytes_after, file_after};
 
-use crate::keys::{Key, least_repeated, sorted_keys};
+use crate::keys::{least_repeated, sorted_keys};
 use crate::puts::put_header;
 use crate::refusals::WriteRefusal;
 use crate::table::Table;
 use shapes::Shape;
 use sources::{Row, RowTable};
 use std::alloc::Global;
-
-// 11: the first row out of range.
-fn check_rows(shape: &Shape, rows: &[Row]) -> Result<(), WriteRefusal>
-    ensures { result ≡ rows_checked (first_outside (dims_of shape.now) 0 rows.now) }
-{
-    match RowTable::new(*shape, rows).check() {
-        Ok(()) => Ok(()),
-        Err(e) => Err(WriteRefusal::Row(e.row)),
-    }
-}
-
-// 24: of keys by rising cell, the least row that comes second on a cell.
-fn check_twice(keys: &[Key]) -> Result<(), WriteRefusal>
-    ensures { MatchResult result (λ _. Repeated keys.now (length keys.now) (length keys.now)) (λ e. (m : ℕ) × (m < length keys.now) × (e ≡ twice m) × Repeated keys.now (length keys.now) m) }
-{
-    let least = least_repeated(keys);
-    if least < keys.len() {
-        return Err(WriteRefusal::Twice(least));
-    }
-    Ok(())
-}
 
 // 25 and 26: the bytes that are needed, where they are not too many, and there is room.
 fn check_room(size: usize, room: usize) -> Result<(), WriteRefusal>
@@ -53,19 +31,18 @@ fn check_room(size: usize, room: usize) -> Result<(), WriteRefusal>
 
 // The file of a table, where there is room for it.
 fn put_file(table: &Table<'_>, out: &mut [u8]) -> Result<usize, WriteRefusal>
-    requires { Sound table.now }
     ensures answers { result ≡ room_answer (length (file_bytes (dims_of table.now.shape) (cells_in table.now))) (length out.old) }
     ensures bytes { out.new ≡ file_after (file_bytes (dims_of table.now.shape) (cells_in table.now)) out.old result }
 {
     let size = table.size();
     check_room(size, out.len())?;
     put_header(out, &table.shape);
-    table.put_directory(out);
-    table.put_bodies(out);
+    table.put_chunks(out);
     Ok(size)
 }
 
-// The checks in their order, and then the file.
+// The checks in their order, and then the file. Apart from `write`, which says of the file that it reads back: each of the two has its own proof.
+// Heap, shape and rows are what `write` was given: a struct would be made for this one call.
 fn write_file(
     heap: Global,
     shape: &Shape,
@@ -75,9 +52,11 @@ fn write_file(
     ensures answers { (result ≡ write_answer (dims_of shape.now) rows.now (length out.old)) ⊎ ((result ≡ Err no_memory) × (first_outside (dims_of shape.now) 0 rows.now ≡ None)) }
     ensures bytes { out.new ≡ bytes_after (dims_of shape.now) rows.now out.old result }
 {
-    check_rows(shape, rows)?;
+    RowTable::new(*shape, rows).check()?;
     let keys = sorted_keys(heap, shape, rows)?;
-    check_twice(&keys)?;
+    if let Some(row) = least_repeated(&keys) {
+        return Err(WriteRefusal::Twice(row));
+    }
     let table = Table {
         shape: *shape,
         rows,

@@ -13,7 +13,8 @@ use Rattle.sources.specs.Meanings.{Chunk, values, faulty}
 use Rattle.cubes.specs.Meanings.{meaning, is_readable, values_of}
 use Rattle.cubes.specs.Summaries.{Divided, big, direct, block, parent_block, contribution, content, projected_offset}
 use Rattle.cubes.specs.Scans.{Injective}
-use Rattle.cubes.proofs.Cells.{local_below, chunk_of_cell, local_of_cell, cell_below, cleared_below, below_cleared, cleared-set, below_set, agrees_same, cleared_from_agrees, length-radix, below_fewer, getD_radix, below_edges, cell_parent, radix_all, below_counts}
+use Rattle.shapes.proofs.Radixes.{length-radix}
+use Rattle.cubes.proofs.Cells.{local_below, chunk_of_cell, local_of_cell, cell_below, cleared_below, below_cleared, cleared-set, below_set, agrees_same, cleared_from_agrees, below_fewer, getD_radix, below_edges, cell_parent, radix_all, below_counts}
 use Rattle.cubes.proofs.Joins.{join_empty, big_cong, nest_cong, nest_digits}
 use Rattle.cubes.proofs.Summaries.{agrees_cleared, summary, summary_kept, summary_child, direct_root, direct_cleared}
 use Rattle.cubes.proofs.Contents.{content_hit}

@@ -120,12 +120,6 @@ agrees_parent (false ∷ g) (x ∷ xs) zero k lacks = agrees_own g xs
 agrees_parent (true ∷ g) (x ∷ xs) (suc e) k lacks = rw (eq-eqb x x refl) (agrees_parent g xs e k lacks)
 agrees_parent (false ∷ g) (x ∷ xs) (suc e) k lacks = agrees_parent g xs e k lacks
 
-pub length-radix : (g : Group) (ks : List ℕ) → length g ≡ length ks → length (radix g ks) ≡ length ks
-length-radix [] [] l = refl
-length-radix [] (k ∷ ks) l = absurd (omega arith)
-length-radix (b ∷ g) [] l = refl
-length-radix (b ∷ g) (k ∷ ks) l = ap suc (length-radix g ks (omega arith))
-
 pub length-cleared : (g : Group) (xs : List ℕ) → length g ≡ length xs → length (cleared g xs) ≡ length xs
 length-cleared [] [] l = refl
 length-cleared [] (x ∷ xs) l = absurd (omega arith)

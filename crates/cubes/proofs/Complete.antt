@@ -15,7 +15,8 @@ use Rattle.cubes.specs.Scans.{scan_number, scan_digits}
 use Rattle.cubes.specs.Handing.{Block, Scan, parent, of_group, blocks, handing, tally}
 use Rattle.cubes.specs.Control.{due_below, tree}
 use Rattle.cubes.specs.SummaryLaws.{parent_scan, CompleteWhenHanded}
-use Rattle.cubes.proofs.Cells.{chunk_below, below_cleared, below_set, length-radix}
+use Rattle.shapes.proofs.Radixes.{length-radix}
+use Rattle.cubes.proofs.Cells.{chunk_below, below_cleared, below_set}
 use Rattle.cubes.proofs.ScanNumbers.{scan_of_digits}
 use Rattle.cubes.proofs.Ranks.{region_rank}
 use Rattle.cubes.proofs.Contents.{content_all}

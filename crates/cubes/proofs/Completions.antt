@@ -10,7 +10,8 @@ use Rattle.shapes.specs.Arrays.{Group, Below, product, radix, counts, chunks, di
 use Rattle.plans.specs.Plans.{Edged, Order}
 use Rattle.cubes.specs.Scans.{width, scan_number, scan_digits, Highest}
 use Rattle.cubes.specs.Handing.{each_below, parent, completes, later_agree, region}
-use Rattle.cubes.proofs.Cells.{length-radix, radix_positive}
+use Rattle.shapes.proofs.Radixes.{length-radix}
+use Rattle.cubes.proofs.Cells.{radix_positive}
 use Rattle.cubes.proofs.ScanNumbers.{low_part, low_full, full_low, low_of_digits, scan_digits_within, scan_of_digits, width_positive}
 use Rattle.cubes.proofs.RegionSteps.{below_dropped, full_from_highest, highest_from_full}
 use Rattle.cubes.proofs.Ranks.{region_rank, rank_region, region_count}

@@ -10,7 +10,8 @@ use Rattle.sources.specs.Meanings.{Chunk}
 use Rattle.cubes.specs.Meanings.{meaning}
 use Rattle.cubes.specs.Summaries.{Divided, big, direct, parent_block, contribution, content}
 use Rattle.cubes.specs.Scans.{Injective}
-use Rattle.cubes.proofs.Cells.{chunk_below, cleared_below, below_cleared, cleared-set, below_set, cleared_from_agrees, agrees_parent, length-radix, length-cleared, below_added}
+use Rattle.shapes.proofs.Radixes.{length-radix}
+use Rattle.cubes.proofs.Cells.{chunk_below, cleared_below, below_cleared, cleared-set, below_set, cleared_from_agrees, agrees_parent, length-cleared, below_added}
 use Rattle.cubes.proofs.Joins.{join_empty, big_cong, big_none, big_join, big_eqb}
 use Rattle.cubes.proofs.Summaries.{direct_blocks}
 

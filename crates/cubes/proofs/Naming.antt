@@ -11,7 +11,8 @@ use Rattle.cubes.specs.Scans.{scan_digits}
 use Rattle.cubes.specs.Handing.{Block, Distinct, Scan, released_by, handing, named}
 use Rattle.cubes.specs.HandingLaws.{ScanNumbers}
 use Rattle.cubes.specs.Control.{Numbered, numbered_block, tree}
-use Rattle.cubes.proofs.Cells.{length-radix, radix_positive}
+use Rattle.shapes.proofs.Radixes.{length-radix}
+use Rattle.cubes.proofs.Cells.{radix_positive}
 use Rattle.cubes.proofs.ScanNumbers.{scan_digits_within, scan_below, digits_of_scan, scan_of_digits}
 use Rattle.cubes.proofs.Listing.{all_unmap, distinct_map}
 use Rattle.cubes.proofs.Groups.{mask_injective}

@@ -11,7 +11,8 @@ use Rattle.shapes.proofs.Numbering.{below_length}
 use Rattle.cubes.specs.Scans.{scan_number, scan_digits}
 use Rattle.cubes.specs.Handing.{Block, Scan, parent, released_by}
 use Rattle.cubes.specs.Control.{Numbered, numbered_block, Table, tree}
-use Rattle.cubes.proofs.Cells.{below_cleared, cleared_below, cleared_from_agrees, length-radix}
+use Rattle.shapes.proofs.Radixes.{length-radix}
+use Rattle.cubes.proofs.Cells.{below_cleared, cleared_below, cleared_from_agrees}
 use Rattle.cubes.proofs.ScanNumbers.{scan_of_digits}
 use Rattle.cubes.proofs.RegionSteps.{getD_cleared}
 use Rattle.cubes.proofs.Ranks.{region_rank}

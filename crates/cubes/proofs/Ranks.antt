@@ -8,7 +8,8 @@ use Rattle.shapes.specs.Arrays.{product, chunks, counts, none_dim, dim, Below, G
 use Rattle.plans.specs.Plans.{Order}
 use Rattle.cubes.specs.Summaries.{big}
 use Rattle.cubes.specs.Scans.{width, scan_number, Highest}
-use Rattle.cubes.proofs.Cells.{length-radix, below_fewer}
+use Rattle.shapes.proofs.Radixes.{length-radix}
+use Rattle.cubes.proofs.Cells.{below_fewer}
 use Rattle.cubes.proofs.Joins.{big_cong}
 use Rattle.cubes.proofs.ScanNumbers.{products, search_place, low_part, width_hit, width_miss, low_hit, low_miss, low_below, low_full, later_same, scan_is_low, width_is_product}
 use Rattle.cubes.proofs.RegionSteps.{getD_cleared, below_dropped, getD_radix_any, full_from_highest}

@@ -11,7 +11,8 @@ use Rattle.measures.specs.Laws.{total}
 use Rattle.cubes.specs.Summaries.{Divided, big}
 use Rattle.cubes.specs.Scans.{width, scan_digits}
 use Rattle.cubes.specs.Handing.{parent, blocks, region, region_blocks, Scan}
-use Rattle.cubes.proofs.Cells.{divided_edged, radix_positive, radix_all, length-radix}
+use Rattle.shapes.proofs.Radixes.{length-radix}
+use Rattle.cubes.proofs.Cells.{divided_edged, radix_positive, radix_all}
 use Rattle.cubes.proofs.Joins.{big_cong, big_join, big_first, total_counting}
 use Rattle.cubes.proofs.Summaries.{divided_at}
 use Rattle.cubes.proofs.ScanNumbers.{products, width_hit}

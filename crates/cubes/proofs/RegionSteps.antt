@@ -11,7 +11,8 @@ use Rattle.sources.specs.Meanings.{Chunk}
 use Rattle.cubes.specs.Meanings.{meaning}
 use Rattle.cubes.specs.Summaries.{Divided, direct, parent_block, content}
 use Rattle.cubes.specs.Scans.{width, scan_number, Injective, Highest, Lowest, InRegion}
-use Rattle.cubes.proofs.Cells.{chunk_below, length-radix, length-cleared}
+use Rattle.shapes.proofs.Radixes.{length-radix}
+use Rattle.cubes.proofs.Cells.{chunk_below, length-cleared}
 use Rattle.cubes.proofs.Contents.{content_none, content_all}
 use Rattle.cubes.proofs.ScanNumbers.{low_part, low_below, low_full, full_low, low_none, scan_apart, next_begins, next_stays, first_none, scan_rising}
 

@@ -12,7 +12,8 @@ use Rattle.sources.specs.Meanings.{Chunk}
 use Rattle.cubes.specs.Meanings.{meaning}
 use Rattle.cubes.specs.Summaries.{Divided, direct, contribution, content}
 use Rattle.cubes.specs.Scans.{scan_number, Highest, InRegion, last_block}
-use Rattle.cubes.proofs.Cells.{divided_edged, chunks_positive, chunk_below, length-radix}
+use Rattle.shapes.proofs.Radixes.{length-radix}
+use Rattle.cubes.proofs.Cells.{divided_edged, chunks_positive, chunk_below}
 use Rattle.cubes.proofs.Contents.{content_hit, content_miss}
 use Rattle.cubes.proofs.ScanNumbers.{below_from_getD}
 use Rattle.cubes.proofs.RegionSteps.{below_dropped, region_complete, region_fresh, getD_radix_any, scan_apart_blocks, first_lowest, next_lowest, next_same}

@@ -10,7 +10,7 @@ use Rattle.plans.specs.Plans.{Order}
 use Rattle.cubes.specs.Scans.{scan_number, scan_digits}
 use Rattle.cubes.specs.Handing.{same_group, lacks, parent, child, children, completes, region, release, Scan}
 use Rattle.cubes.specs.Control.{numbered_block, tree}
-use Rattle.cubes.proofs.Cells.{length-radix}
+use Rattle.shapes.proofs.Radixes.{length-radix}
 use Rattle.cubes.proofs.ScanNumbers.{scan_of_digits}
 use Rattle.cubes.proofs.Machine.{same_group_true, same_group_refl, same_group_ne, cases_group, TreeLaws, Under, release_numbers, child_part, due_from}
 use Rattle.cubes.proofs.Completions.{period_positive, share_positive, completes_is, region_is, region_within}

@@ -4,8 +4,6 @@
 ghost use Rattle.figures.specs.Figures.{Figures};
 
 /// The figures that a reader can check by hand.
-pub fn worked_figures() -> u8
+pub fn worked_figures()
     ensures { Figures }
-{
-    0
-}
+{}

@@ -1,5 +1,6 @@
 -- How many chunks pass a test.
-use Rattle.std.proofs.Common.{◌≡◌, ℕ, zero, suc, ◌+◌, ◌<◌, ◌≤◌, Bool, cond, not, is_err, count_by, sym, refl, ap, ◌∙◌, ap₂, add-one, arith}
+use Rattle.std.proofs.Common.{◌≡◌, ℕ, zero, suc, ◌+◌, ◌<◌, ◌≤◌, Bool, true, false, cond, not, is_err, count_by, sym, refl, ap, ◌∙◌, ap₂, add-one, arith}
+use mir.Val.{bool_byte}
 use Rattle.std.specs.List.{range_with_len}
 use Rattle.std.proofs.lemmas.List.FromFn.{length-range_with_len}
 use Rattle.std.proofs.lemmas.List.Filters.{length-filter_both}
@@ -11,6 +12,11 @@ use Rattle.cubes.specs.Meanings.{is_readable}
 use Rattle.runs.specs.Surveys.{unreadable_chunks}
 use Rattle.listings.specs.Making.{unfetched_count}
 use Rattle.runs.proofs.LivingChunks.{count_more}
+
+-- a test as a number
+pub byte_counts : (t : Bool) (n : ℕ) → n ≡ bool_byte t → (n ≡ cond t 1 0) × (n ≤ 1)
+byte_counts true n e = (e, omega arith)
+byte_counts false n e = (e, omega arith)
 
 -- a counter that goes up where the test holds
 pub counted_more : (test : ℕ → Bool) (n count after : ℕ) (t : Bool) → count ≡ count_by test (range_with_len 0 n) → test n ≡ t → after ≡ count + cond t 1 0 → after ≡ count_by test (range_with_len 0 (n + 1))

@@ -18,13 +18,6 @@ use Rattle.runs.proofs.LivingAnswers.{hand_granted}
 use Rattle.runs.proofs.LivingScans.{passed_within}
 
 module _ {M : Type 0} (empty : M) (op : M → M → M) (b : Moment M) (old : List M) (r : Result (ℕ × ℕ × ℕ) RunRefusal) (new : List M) (a : Moment M) (hands : Hands empty op b old r new a) where
-  -- the cells of a block that was handed out lie in the buffer
-  pub handed_fits : (x : ℕ × ℕ × ℕ) → r ≡ Ok x → x.2 ≤ length old
-  handed_fits x e =
-      let g = hand_granted (view b) (length old) x (sym e ∙ hands.answers) in
-      let size = ap (λ (y : ℕ × ℕ × ℕ). y.2) g.1 in
-      omega (arith, g.2)
-
   -- fewer blocks are left
   pub fewer_left : (x : ℕ × ℕ × ℕ) → r ≡ Ok x → length (handing_order (dims_in a)) - (view a).handed < length (handing_order (dims_in b)) - (view b).handed
   fewer_left x e =

@@ -1,6 +1,4 @@
-pub mod Writing
 pub mod Asking
-pub mod Filled
 pub mod Counting
 pub mod Worked
 pub mod Answering

@@ -20,8 +20,9 @@ use Rattle.runs.specs.Surveys.{readable_chunks, unreadable_chunks}
 use Rattle.listings.specs.declared.letters.Kind.{Kind}
 use Rattle.listings.specs.declared.letters.Kind.TheVariants.{Total, Range, Marks}
 use Rattle.listings.specs.Lines.{dims_line, cells_line, end_line}
-use Rattle.listings.specs.Listings.{block_lines, summary_lines, unless_refused, listing_fault, file_listing, kind_listing, most_bytes, asked, listing}
+use Rattle.listings.specs.Listings.{block_lines, summary_lines, listing_fault, file_listing, kind_listing, most_bytes, asked, listing}
 use Rattle.listings.specs.SecondLine.{file_in, faulty_bodies, LeastNeedAndUnreadable}
+use Rattle.listings.proofs.Answering.{listing_by}
 use Rattle.listings.proofs.Counting.{count_same}
 
 module _ {M : Type 0} (empty : M) (columns : M → List ℕ) (op : M → M → M) (lifted : Reading → M) (bs : List ℕ) where
@@ -39,10 +40,10 @@ module _ {M : Type 0} (empty : M) (columns : M → List ℕ) (op : M → M → M
 
   pub cells_second : listing_fault bs ≡ None
       → (rest : List ℕ) × (file_listing empty columns op lifted bs ≡ dims_line (file_dims bs) ++ (cells_line (plan_need (file_dims bs)) (faulty_bodies bs) ++ rest))
-  unfolding file_listing summary_lines need_of
+  unfolding summary_lines need_of
   cells_second none = (
     rest,
-    ap (λ o. unless_refused o (summary_lines empty columns op (meaning (file_dims bs) (file_chunk empty lifted bs)))) none
+    listing_by empty op lifted columns bs None none
         ∙ ap (λ n. dims_line (file_dims bs) ++ (cells_line (plan_need (file_dims bs)) n ++ rest)) unreadable_is,
   )
 

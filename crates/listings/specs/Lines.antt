@@ -1,22 +1,11 @@
 -- The lines of a listing as text. Assumes nothing.
-use Rattle.std.specs.Prelude.{ℕ, List, [], ◌∷◌, ◌++◌, map, length, codes, decimal}
-use Rattle.std.specs.List.{flat_map}
+use Rattle.std.specs.Prelude.{ℕ, List, [], ◌∷◌, map, codes, decimal}
 use Rattle.shapes.specs.declared.dims.Dim.{Dim}
-
--- each field behind a space
-abbrev pub spaced : List (List ℕ) → List ℕ
-spaced fields = flat_map (λ f. codes " " ++ f) fields
-
--- fields with one space between; the line ends with byte 10
-abbrev pub line : List ℕ → List (List ℕ) → List ℕ
-line first others = (first ++ spaced others) ++ codes "\n"
-
--- a dimension as a field
-abbrev pub dim_field : Dim → List ℕ
-dim_field d = decimal d.size ++ (codes "/" ++ decimal d.edge)
+use Rattle.heads.specs.Heads.{dims_line as head, refused_lines as refusal}
+pub use Rattle.heads.specs.Heads.{spaced, line}
 
 unfoldable pub dims_line : List Dim → List ℕ
-dims_line ds = line (codes "DIMS") (decimal (length ds) ∷ map dim_field ds)
+dims_line ds = head ds
 
 -- the plan's need, and how many chunks are unreadable
 unfoldable pub cells_line : ℕ → ℕ → List ℕ
@@ -32,4 +21,4 @@ end_line readable unreadable blocks = line (codes "END") (map decimal (readable 
 
 -- the number of a refusal, and its place
 unfoldable pub refused_lines : ℕ → ℕ → List ℕ
-refused_lines number place = line (codes "DIMS") (codes "0" ∷ []) ++ line (codes "REFUSED") (map decimal (number ∷ place ∷ []))
+refused_lines number place = refusal number place

@@ -1,5 +1,5 @@
 -- How a listing is made: what is written, counted and held on the way. Assumes nothing.
-use Rattle.std.specs.Prelude.{◌≡◌, ℕ, false, List, ◌++◌, take, is_err, count_by, Result, OnOk}
+use Rattle.std.specs.Prelude.{◌≡◌, ℕ, false, List, ◌++◌, take, is_err, count_by, Result, OnOk, String, string_bytes}
 use Rattle.std.specs.List.{range_with_len, flat_map}
 use Rattle.shapes.specs.Arrays.{total_chunks}
 use Rattle.sources.specs.Meanings.{Meaning, fetch_answer}
@@ -10,8 +10,8 @@ use Rattle.runs.specs.Holdings.{Moment, view, Represents}
 use Rattle.listings.specs.Listings.{block_lines}
 
 -- what a call that writes behind a text leaves of it, unless memory is wanting
-abbrev pub Writes : {E : Type 0} → Result (Unit {0}) E → List ℕ → List ℕ → List ℕ → Type 0
-Writes r before after lines = OnOk r (after ≡ before ++ lines)
+abbrev pub Writes : {E Z : Type 0} → Result (Unit {0}) E → String Z → String Z → List ℕ → Type 0
+Writes r before after lines = OnOk r (string_bytes after ≡ string_bytes before ++ lines)
 
 -- how many chunks can't be fetched into so many cells: where V cells fit, the unreadable ones, else all
 abbrev pub unfetched_count : {M : Type 0} → Meaning M → ℕ → ℕ

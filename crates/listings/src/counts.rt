@@ -16,9 +16,7 @@ pub(crate) fn count_unreadable<M: Measure, S: Source<M>>(source: &mut S, buffer:
 {
     let mut count = 0;
     for number in 0..source.shape().total_chunks() {
-        if source.fetch(number, buffer).is_err() {
-            count += 1;
-        }
+        count += u64::from(source.fetch(number, buffer).is_err());
     }
     count
 }

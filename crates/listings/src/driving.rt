@@ -1,13 +1,13 @@
-// A run driven to its end, and the lines of the blocks that it hands out.
+// A run driven to its end, and the lines of the blocks that it hands out. `survey` of runs drives one too, but can't stop on the way, as want of memory does here.
 ghost use Rattle.std.specs.Prelude.{◌≡◌, ◌+◌, ◌<◌, ◌≤◌, false, length, string_bytes, OnOk};
 ghost use Rattle.shapes.specs.Arrays.{total_chunks, volume};
 ghost use Rattle.sources.specs.Meanings.{Meaning, means};
 ghost use Rattle.runs.specs.Answers.{passed, waits};
 ghost use Rattle.runs.specs.Holdings.{dims_in, moment, view};
-ghost use Rattle.listings.specs.Listings.{TellsEmpty};
 ghost use Rattle.listings.specs.Making.{Driven, Ends, GoesOn};
 
 use crate::blocks::add_block_lines;
+use crate::listed::Listed;
 use measures::Measure;
 use runs::Run;
 use sources::{Shaped, Source};
@@ -29,33 +29,31 @@ fn pass_chunk<M: Measure, S: Source<M>>(run: &mut Run<'_, M>, source: &mut S)
 }
 
 // Hands out the blocks that wait, and writes their lines.
-fn add_waiting_blocks<M: Measure>(
+fn add_waiting_blocks<M: Listed>(
     text: &mut String,
     run: &mut Run<'_, M>,
     buffer: &mut [M],
 ) -> Result<(), AllocError>
-    requires tells { TellsEmpty M.empty M.columns }
     requires room { volume (dims_in (moment run.old)) ≤ length buffer.old }
-    ensures { OnOk result ((σ : Meaning M) → Driven M.empty M.op σ (moment run.old) → (waits (view (moment run.new)) ≡ false) × GoesOn M.empty M.columns M.op σ (moment run.old) (string_bytes text.old) (moment run.new) (string_bytes text.new)) }
+    ensures { OnOk result ((σ : Meaning M) → Driven M.Measure.empty M.Measure.op σ (moment run.old) → (waits (view (moment run.new)) ≡ false) × GoesOn M.Measure.empty M.Measure.columns M.Measure.op σ (moment run.old) (string_bytes text.old) (moment run.new) (string_bytes text.new)) }
 {
     while let Ok((mask, number, cells)) = run.hand(buffer) {
-        add_block_lines(text, mask as u64, number, &buffer[0..cells])?;
+        add_block_lines(text, mask as u64, number, &buffer[..cells])?;
     }
     Ok(())
 }
 
 // Passes every chunk of the source, and writes the lines of all blocks.
-pub(crate) fn add_all_blocks<M: Measure, S: Source<M>>(
+pub(crate) fn add_all_blocks<M: Listed, S: Source<M>>(
     text: &mut String,
     run: &mut Run<'_, M>,
     source: &mut S,
     buffer: &mut [M],
 ) -> Result<(), AllocError>
-    requires tells { TellsEmpty M.empty M.columns }
-    requires driven { Driven M.empty M.op (means S.Shaped.told S.contents source.old) (moment run.old) }
+    requires driven { Driven M.Measure.empty M.Measure.op (means S.Shaped.told S.contents source.old) (moment run.old) }
     requires fresh { (passed (view (moment run.old)) ≡ 0) × ((view (moment run.old)).handed ≡ 0) }
     requires room { volume (S.Shaped.told source.old) ≤ length buffer.old }
-    ensures { OnOk result (Ends M.empty M.columns M.op (means S.Shaped.told S.contents source.old) (string_bytes text.old) (moment run.new) (string_bytes text.new)) }
+    ensures { OnOk result (Ends M.Measure.empty M.Measure.columns M.Measure.op (means S.Shaped.told S.contents source.old) (string_bytes text.old) (moment run.new) (string_bytes text.new)) }
 {
     for _scan in 0..source.shape().total_chunks() {
         pass_chunk(run, source);

@@ -1,5 +1,5 @@
 // The first two lines of a listing.
-ghost use Rattle.std.specs.Prelude.{◌≡◌, ◌≤◌, ◌++◌, length, string_bytes};
+ghost use Rattle.std.specs.Prelude.{◌≡◌, ◌≤◌, ◌++◌, length};
 ghost use Rattle.shapes.specs.Arrays.{volume};
 ghost use Rattle.shapes.specs.Views.{dims_of};
 ghost use Rattle.sources.specs.Meanings.{means};
@@ -15,10 +15,10 @@ use sources::{Shaped, Source};
 use std::alloc::AllocError;
 
 fn add_shape_line(text: &mut String, shape: &Shape) -> Result<(), AllocError>
-    ensures { Writes result (string_bytes text.old) (string_bytes text.new) (dims_line (dims_of shape.now)) }
+    ensures { Writes result text.old text.new (dims_line (dims_of shape.now)) }
 {
     let dims = shape.dims();
-    add_dims_line(text, &dims[0..shape.dimensions()])
+    add_dims_line(text, &dims[..shape.dimensions()])
 }
 
 // The dimensions; then the need and how many chunks can't be read, for which each is fetched into the buffer.
@@ -30,7 +30,7 @@ pub(crate) fn add_first_lines<M: Measure, S: Source<M>>(
 ) -> Result<(), AllocError>
     requires { volume (S.Shaped.told source.old) ≤ length buffer.old }
     ensures same { means S.Shaped.told S.contents source.new ≡ means S.Shaped.told S.contents source.old }
-    ensures lines { Writes result (string_bytes text.old) (string_bytes text.new) (dims_line (S.Shaped.told source.old) ++ cells_line need (unreadable_chunks (means S.Shaped.told S.contents source.old))) }
+    ensures lines { Writes result text.old text.new (dims_line (S.Shaped.told source.old) ++ cells_line need (unreadable_chunks (means S.Shaped.told S.contents source.old))) }
 {
     add_shape_line(text, &source.shape())?;
     let unreadable = count_unreadable(source, buffer);

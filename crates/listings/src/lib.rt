@@ -9,7 +9,9 @@ mod first_lines;
 mod laws;
 mod letters;
 mod lines;
+mod listed;
 mod listing;
+mod refusals;
 
 pub use examples::examples_are_listed;
 pub use laws::only_empty_is_left_out;

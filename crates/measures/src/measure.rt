@@ -1,7 +1,7 @@
 // A measure: an empty value, a value for each reading, and a join of two values.
-ghost use Rattle.std.specs.Prelude.{◌≡◌, ℕ, min, max, true, List, length, slice_index};
+ghost use Rattle.std.specs.Prelude.{◌≡◌, ℕ, true, List, length, slice_index};
 ghost use Rattle.measures.specs.Laws.{Lawful, total};
-ghost use Rattle.measures.specs.Totals.{stopped_sum, no_total, total_join, total_lift, total_columns, total_wide, total_lawful};
+ghost use Rattle.measures.specs.Totals.{no_total, total_join, total_lift, total_columns, total_wide, total_lawful};
 ghost use Rattle.measures.specs.Ranges.{no_range, range_join, range_lift, range_columns, range_wide, range_lawful};
 ghost use Rattle.measures.specs.Markings.{no_marks, marks_join, marks_lift, marks_columns, marks_wide, marks_lawful};
 ghost use Rattle.shapes.specs.declared.readings.Reading.{Reading};
@@ -18,11 +18,10 @@ pub trait Measure: Copy {
     /// How many columns a value prints as.
     const COLUMNS: usize;
 
-    // the value of LETTER, for contracts
-    ghost letter: { ℕ };
+    // the constants, for contracts: the check holds each to its constant
+    ghost LETTER: { ℕ };
 
-    // the value of COLUMNS, for contracts
-    ghost width: { ℕ };
+    ghost COLUMNS: { ℕ };
 
     // the value of no reading at all
     ghost empty: { Self };
@@ -37,18 +36,24 @@ pub trait Measure: Copy {
     ghost columns: { Self → List ℕ };
 
     // every value prints as that many columns
-    ghost wide: { (v : Self) → length (columns v) ≡ width };
+    ghost wide: { (v : Self) → length (columns v) ≡ COLUMNS };
 
     // the join is associative and commutative, and the empty value changes nothing
     ghost lawful: { Lawful empty op };
 
-    /// `LETTER`, under a contract: each implementation returns its constant, so a wrong one is not proved.
-    fn letter_byte() -> u8
-        ensures { result ≡ letter };
+    /// `LETTER`, under a contract. No implementation can answer otherwise.
+    final fn letter_byte() -> u8
+        ensures { result ≡ LETTER }
+    {
+        Self::LETTER
+    }
 
     /// `COLUMNS`, in the same way.
-    fn column_count() -> usize
-        ensures { result ≡ width };
+    final fn column_count() -> usize
+        ensures { result ≡ COLUMNS }
+    {
+        Self::COLUMNS
+    }
 
     fn empty() -> Self
         ensures { result ≡ empty };
@@ -59,6 +64,7 @@ pub trait Measure: Copy {
     fn join(self, other: Self) -> Self
         ensures { result ≡ op self other };
 
+    // Each implementation writes it: one body here would ask each measure for `==`.
     /// True of the empty value, and of no other.
     fn is_empty(&self) -> bool
         ensures { (result ≡ true → self.now ≡ empty) × (self.now ≡ empty → result ≡ true) };
@@ -68,32 +74,14 @@ pub trait Measure: Copy {
         ensures { result ≡ slice_index (columns self.now) i };
 }
 
-fn stopped_sum(a: u64, b: u64) -> u64
-    ensures { result ≡ stopped_sum a b }
-{
-    a.saturating_add(b)
-}
-
-fn lower(a: u32, b: u32) -> u32
-    ensures { result ≡ min a b }
-{
-    a.min(b)
-}
-
-fn higher(a: u32, b: u32) -> u32
-    ensures { result ≡ max a b }
-{
-    a.max(b)
-}
-
 impl Measure for Total {
     const LETTER: u8 = b'T';
 
     const COLUMNS: usize = 2;
 
-    ghost letter = { 84 };
+    ghost LETTER = { 84 };
 
-    ghost width = { 2 };
+    ghost COLUMNS = { 2 };
 
     ghost empty = { no_total };
 
@@ -106,14 +94,6 @@ impl Measure for Total {
     ghost wide = { total_wide };
 
     ghost lawful = { total_lawful };
-
-    fn letter_byte() -> u8 {
-        Self::LETTER
-    }
-
-    fn column_count() -> usize {
-        Self::COLUMNS
-    }
 
     fn empty() -> Total {
         Total { count: 0, sum: 0 }
@@ -128,21 +108,17 @@ impl Measure for Total {
 
     fn join(self, other: Total) -> Total {
         Total {
-            count: stopped_sum(self.count, other.count),
-            sum: stopped_sum(self.sum, other.sum),
+            count: self.count.saturating_add(other.count),
+            sum: self.sum.saturating_add(other.sum),
         }
     }
 
     fn is_empty(&self) -> bool {
-        self.count == 0 && self.sum == 0
+        *self == Total::empty()
     }
 
     fn column(&self, i: usize) -> u64 {
-        match i {
-            0 => self.count,
-            1 => self.sum,
-            _ => 0,
-        }
+        [self.count, self.sum].get(i).copied().unwrap_or(0)
     }
 }
 
@@ -151,9 +127,9 @@ impl Measure for Range {
 
     const COLUMNS: usize = 2;
 
-    ghost letter = { 82 };
+    ghost LETTER = { 82 };
 
-    ghost width = { 2 };
+    ghost COLUMNS = { 2 };
 
     ghost empty = { no_range };
 
@@ -166,14 +142,6 @@ impl Measure for Range {
     ghost wide = { range_wide };
 
     ghost lawful = { range_lawful };
-
-    fn letter_byte() -> u8 {
-        Self::LETTER
-    }
-
-    fn column_count() -> usize {
-        Self::COLUMNS
-    }
 
     fn empty() -> Range {
         Range {
@@ -191,21 +159,18 @@ impl Measure for Range {
 
     fn join(self, other: Range) -> Range {
         Range {
-            low: lower(self.low, other.low),
-            high: higher(self.high, other.high),
+            low: self.low.min(other.low),
+            high: self.high.max(other.high),
         }
     }
 
     fn is_empty(&self) -> bool {
-        self.low == u32::MAX && self.high == 0
+        *self == Range::empty()
     }
 
     fn column(&self, i: usize) -> u64 {
-        match i {
-            0 => u64::from(self.low),
-            1 => u64::from(self.high),
-            _ => 0,
-        }
+        let columns = [u64::from(self.low), u64::from(self.high)];
+        columns.get(i).copied().unwrap_or(0)
     }
 }
 
@@ -214,9 +179,9 @@ impl Measure for Marks {
 
     const COLUMNS: usize = 1;
 
-    ghost letter = { 77 };
+    ghost LETTER = { 77 };
 
-    ghost width = { 1 };
+    ghost COLUMNS = { 1 };
 
     ghost empty = { no_marks };
 
@@ -229,14 +194,6 @@ impl Measure for Marks {
     ghost wide = { marks_wide };
 
     ghost lawful = { marks_lawful };
-
-    fn letter_byte() -> u8 {
-        Self::LETTER
-    }
-
-    fn column_count() -> usize {
-        Self::COLUMNS
-    }
 
     fn empty() -> Marks {
         Marks { bits: 0 }
@@ -255,11 +212,11 @@ impl Measure for Marks {
     }
 
     fn is_empty(&self) -> bool {
-        self.bits == 0
+        *self == Marks::empty()
     }
 
     fn column(&self, i: usize) -> u64 {
-        if i == 0 { self.bits } else { 0 }
+        [self.bits].get(i).copied().unwrap_or(0)
     }
 }
 
@@ -267,9 +224,5 @@ impl Measure for Marks {
 pub fn join_all<M: Measure>(xs: &[M]) -> M
     ensures { result ≡ total M.empty M.op xs.now }
 {
-    let mut all = M::empty();
-    for x in xs {
-        all = all.join(*x);
-    }
-    all
+    xs.iter().fold(M::empty(), |all, x| all.join(*x))
 }

@@ -1,5 +1,5 @@
 -- The plan needs the fewest cells of all orders and parents.
-use Rattle.std.proofs.Common.{◌≡◌, ℕ, suc, ◌+◌, ◌-◌, ◌*◌, ◌^◌, ◌<◌, ◌≤◌, Bool, true, false, cond, ltb, ◌⊎◌, List, [], ◌∷◌, map, length, sum, sym, refl, ap, ◌∙◌, inl, inr, le_trans, suc-mul, arith}
+use Rattle.std.proofs.Common.{◌≡◌, ℕ, suc, ◌+◌, ◌-◌, ◌*◌, ◌^◌, ◌<◌, ◌≤◌, Bool, true, false, cond, ltb, ◌⊎◌, List, [], ◌∷◌, map, length, sum, sym, refl, ap, ◌∙◌, inl, inr, suc-mul, arith}
 use native.Mathlib.Nat.{one-le-pow}
 use Rattle.std.specs.List.{range_with_len, AllByRecursion}
 use Rattle.std.proofs.lemmas.List.Sums.{sum_by-cons}
@@ -8,7 +8,7 @@ use Rattle.std.proofs.lemmas.Bool.{cases_order}
 use Rattle.shapes.specs.declared.dims.Dim.{Dim}
 use Rattle.shapes.specs.Arrays.{Group, product, volume, extent, none_dim, dim, numbers, keeps, group}
 use Rattle.plans.specs.Plans.{Edged, Lacks, others, Order, Parents, share, cells, need, Best, slack, RisingSlack, plan_place, earliest, plan_adds, plan_need, Bounded, Least}
-use Rattle.plans.proofs.Sums.{total, times, total_same, times_same, total_le, times_le, times_front_le, total_at_most, product_is, all_counting, counting_all, Pairs, pairs_counting, counting_pairs}
+use Rattle.plans.proofs.Sums.{total, times, total_same, total_le, times_le, total_at_most, product_is, all_counting, counting_all, Pairs, pairs_counting, counting_pairs}
 use Rattle.plans.proofs.Exchange.{below_root, FollowsSlack, Apart, least_below_root, least_below_root_only}
 use Rattle.plans.proofs.GroupSums.{times_shift}
 use Rattle.plans.proofs.Earliest.{brings, terms, sum_terms, Distinct, earliest_le, earliest_is, terms_le, terms_best}
@@ -194,32 +194,3 @@ module _ (ds : List Dim) (edged : Edged ds) where
       let S : ℕ = extent ds in
       let k : (2 ^ n - 1) * S + S ≡ 2 ^ n * S = one_less (2 ^ n) S (one-le-pow n 2 (omega arith)) in
       omega (arith, need_is place adds, volume_at_most, k, total_at_most S (λ m. cells ds place (group n m) (adds (group n m))) 0 (2 ^ n - 1) (λ m. cells_at_most place (group n m) (adds (group n m))))
-
-  -- so has every product on the way to the cells of a group
-  pub cells_front : (place : ℕ → ℕ) (g : Group) (e i : ℕ) → i ≤ length ds → times (share ds place g e) (range_with_len 0 i) ≤ extent ds
-  unfolding n D C brings
-  cells_front place g e i l =
-      rw (sizes_is (λ (d : Dim). d.size) ds)
-      (le_trans
-      (times_le (brings D C place g e) D (range_with_len 0 i) (all_counting (λ k. brings D C place g e k ≤ D k) 0 i (λ k _ b. brings_at_most place g e k (omega arith))))
-      (times_front_le D i n l sized))
-
-  -- the need depends on no more than the places of the dimensions and the parents of the groups
-  cells_same : (p q : ℕ → ℕ) (g : Group) (e : ℕ) → e < length ds → ((i : ℕ) → i < length ds → p i ≡ q i) → cells ds p g e ≡ cells ds q g e
-  cells_same p q g e l same =
-      product_is (share ds p g e) (numbers ds)
-      ∙ (times_same (share ds p g e) (share ds q g e) (numbers ds)
-      (all_counting (λ i. share ds p g e i ≡ share ds q g e i) 0 (length ds) (λ i _ b. rw (same i (omega arith), same e l) refl))
-      ∙ sym (product_is (share ds q g e) (numbers ds)))
-
-  pub need_same : (p q : ℕ → ℕ) (a b : Group → ℕ) → ((i : ℕ) → i < length ds → p i ≡ q i)
-      → ((m : ℕ) → m + 1 < 2 ^ length ds → (b (group (length ds) m) < length ds) × (a (group (length ds) m) ≡ b (group (length ds) m))) → need ds p a ≡ need ds q b
-  unfolding n
-  need_same p q a b same adds =
-      need_is p a
-      ∙ (ap (λ k. volume ds + k)
-      (total_same (λ m. cells ds p (group n m) (a (group n m))) (λ m. cells ds q (group n m) (b (group n m))) (range_with_len 0 (2 ^ n - 1))
-      (all_counting (λ m. cells ds p (group n m) (a (group n m)) ≡ cells ds q (group n m) (b (group n m))) 0 (2 ^ n - 1)
-      (λ m _ l. let h = adds m (omega arith) in
-      ap (cells ds p (group n m)) h.1 ∙ cells_same p q (group n m) (b (group n m)) h.0 same)))
-      ∙ sym (need_is q b))

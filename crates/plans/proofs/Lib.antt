@@ -8,3 +8,5 @@ pub mod Filled
 pub mod LeastNeed
 pub mod Cells
 pub mod Planning
+pub mod Picking
+pub mod Few

@@ -1,12 +1,12 @@
 -- The plan's places: an order along which slack never falls.
-use Rattle.std.proofs.Common.{◌≡◌, ℕ, zero, suc, ◌+◌, ◌<◌, ◌≤◌, Bool, true, false, cond, ◌&&◌, ◌||◌, eqb, ltb, ◌⊎◌, List, [], ◌∷◌, length, count_by, sym, refl, ap, ◌∙◌, inl, inr, le_refl, arith}
-use Rattle.std.specs.List.{range_with_len}
+use Rattle.std.proofs.Common.{◌≡◌, ℕ, zero, suc, ◌+◌, ◌-◌, ◌<◌, ◌≤◌, Bool, true, false, cond, ◌&&◌, ◌||◌, eqb, ltb, ◌⊎◌, List, [], ◌∷◌, length, count_by, sym, refl, ap, ◌∙◌, inl, inr, le_refl, arith}
+use Rattle.std.specs.List.{range_with_len, filter, enumerate_from}
 use Rattle.std.proofs.lemmas.List.Sums.{sum_by-cons}
 use Rattle.std.proofs.lemmas.Bool.{cases_lt, cases_order, lt-ltb, le-ltb, eq-eqb, ne_eqb}
 use Rattle.shapes.specs.declared.dims.Dim.{Dim}
-use Rattle.shapes.specs.Arrays.{numbers}
+use Rattle.shapes.specs.Arrays.{numbers, dim}
 use Rattle.plans.specs.Plans.{slack, plan_place, Order, RisingSlack}
-use Rattle.plans.proofs.Sums.{total, total_nil, total_more, total_plus, total_le, all_counting}
+use Rattle.plans.proofs.Sums.{total, total_plus, total_le, all_counting}
 
 count_is : (b : ℕ → Bool) (xs : List ℕ) → count_by b xs ≡ total (λ x. cond (b x) 1 0) xs
 unfolding total
@@ -143,15 +143,24 @@ module _ (ds : List Dim) where
       go (inl b) = absurd (omega (arith, place_before j i k (inl b)))
       go (inr b) = b
 
-  -- as a loop counts
-  pub placed_none : (i : ℕ) → 1 ≡ 1 + total (counts (slack ds) i) (range_with_len 0 0)
-  placed_none i = omega (arith, total_nil (counts (slack ds) i))
+-- as many as a filter of the numbered dimensions keeps
+count_numbered : (b : ℕ × Dim → Bool) (f : ℕ → ℕ) (ds : List Dim) (a : ℕ) → ((i : ℕ) → i < length ds → f (a + i) ≡ cond (b (a + i, dim ds i)) 1 0) → length (filter b (enumerate_from a ds)) ≡ total f (range_with_len a (length ds))
+unfolding total
+count_numbered b f [] a h = refl
+count_numbered b f (d ∷ ds) a h = go (b (a, d)) refl (count_numbered b f ds (a + 1) (λ i l. let e : a + 1 + i ≡ a + suc i = omega arith in rw e (h (suc i) (omega arith))))
+  where
+    here : (t : Bool) → b (a, d) ≡ t → f a ≡ cond t 1 0
+    here t e = let z : a ≡ a + 0 = omega arith in ap f z ∙ (h 0 (omega arith) ∙ ap (λ k. cond (b (k, d)) 1 0) (sym z)) ∙ ap (λ u. cond u 1 0) e
 
-  pub placed_more : (i j a b : ℕ) (r : Bool) → a ≡ slack ds j → b ≡ slack ds i → r ≡ (ltb a b || (eqb a b && ltb j i))
-      → total (counts (slack ds) i) (range_with_len 0 (j + 1)) ≡ total (counts (slack ds) i) (range_with_len 0 j) + cond r 1 0
-  placed_more i j a b r ea eb er =
-      let e : r ≡ (ltb (slack ds j) (slack ds i) || (eqb (slack ds j) (slack ds i) && ltb j i)) = rw (← ea, ← eb) er in
-      total_more (counts (slack ds) i) j ∙ ap (λ k. total (counts (slack ds) i) (range_with_len 0 j) + k) (counts_when (slack ds) i j ∙ ap (λ t. cond t 1 0) (sym e))
+    go : (t : Bool) → b (a, d) ≡ t → length (filter b (enumerate_from (a + 1) ds)) ≡ total f (range_with_len (a + 1) (length ds))
+        → length (cond t ((a, d) ∷ filter b (enumerate_from (a + 1) ds)) (filter b (enumerate_from (a + 1) ds))) ≡ f a + total f (range_with_len (a + 1) (length ds))
+    go true e ih = omega (arith, here true e)
+    go false e ih = omega (arith, here false e)
 
-  pub placed_all : (i j : ℕ) → j ≡ length ds → 1 + total (counts (slack ds) i) (range_with_len 0 j) ≡ plan_place ds i
-  placed_all i j e = rw e (sym (place_is ds i))
+pub placed_after : (ds : List Dim) (i k : ℕ) (own : ℕ) → own ≡ slack ds i
+    → k ≡ length (filter (λ (p : ℕ × Dim). ltb (p.1.size - p.1.edge) own || (eqb (p.1.size - p.1.edge) own && ltb p.0 i)) (enumerate_from 0 ds)) → 1 + k ≡ plan_place ds i
+placed_after ds i k own eo ek =
+    let P : (ℕ × Dim) → Bool = λ (p : ℕ × Dim). ltb (p.1.size - p.1.edge) own || (eqb (p.1.size - p.1.edge) own && ltb p.0 i) in
+    let one : (j : ℕ) → j < length ds → counts (slack ds) i (0 + j) ≡ cond (P (0 + j, dim ds j)) 1 0 =
+    λ j l. let z : 0 + j ≡ j = omega arith in rw z (counts_when (slack ds) i j ∙ ap (λ o. cond (ltb (slack ds j) o || (eqb (slack ds j) o && ltb j i)) 1 0) (sym eo)) in
+    omega (arith, place_is ds i, ek, count_numbered P (counts (slack ds) i) ds 0 one)

@@ -1,5 +1,5 @@
 -- Sums and products over a list, lists that differ in order alone, what holds of each pair of a list.
-use Rattle.std.proofs.Common.{◌≡◌, ℕ, zero, suc, ◌+◌, ◌*◌, ◌<◌, ◌≤◌, ◌⊎◌, List, [], ◌∷◌, map, sym, refl, ap, ◌∙◌, inl, inr, le_trans, le_refl, add-zero, mul_assoc, mul-le-mul, le-mul_of_pos_right, mul_left_comm, add-one, arith}
+use Rattle.std.proofs.Common.{◌≡◌, ℕ, zero, suc, ◌+◌, ◌*◌, ◌<◌, ◌≤◌, ◌⊎◌, List, [], ◌∷◌, map, refl, ap, ◌∙◌, inl, inr, add-zero, mul-le-mul, mul_left_comm, arith}
 use native.Mathlib.Nat.{one-le-mul}
 use Rattle.std.specs.List.{range_with_len, AllByRecursion}
 use Rattle.std.proofs.lemmas.Bool.{cases_lt}
@@ -12,10 +12,6 @@ total f (x ∷ xs) = f x + total f xs
 unfoldable pub times : (ℕ → ℕ) → List ℕ → ℕ
 times f [] = 1
 times f (x ∷ xs) = f x * times f xs
-
-pub times_nil : (f : ℕ → ℕ) → times f [] ≡ 1
-unfolding times
-times_nil f = refl
 
 pub total_nil : (f : ℕ → ℕ) → total f [] ≡ 0
 unfolding total
@@ -75,23 +71,6 @@ total_last f a (suc n) =
     let ih' : f (a + 1) + total f (range_with_len (a + 1 + 1) n) ≡ total f (range_with_len (a + 1) n) + f (a + suc n) = rw e at ih in
     omega arith
 
-pub total_more : (f : ℕ → ℕ) (n : ℕ) → total f (range_with_len 0 (n + 1)) ≡ total f (range_with_len 0 n) + f n
-total_more f n =
-    let z : 0 + n ≡ n = omega arith in
-    rw (add-one n) (total_last f 0 n ∙ ap (λ k. total f (range_with_len 0 n) + f k) z)
-
-pub times_last : (f : ℕ → ℕ) (a n : ℕ) → times f (range_with_len a (suc n)) ≡ times f (range_with_len a n) * f (a + n)
-unfolding times
-times_last f a zero = rw (add-zero a) (omega arith)
-times_last f a (suc n) =
-    let e : a + 1 + n ≡ a + suc n = omega arith in
-    ap (λ k. f a * k) (times_last f (a + 1) n) ∙ (sym (mul_assoc (f a) (times f (range_with_len (a + 1) n)) (f (a + 1 + n))) ∙ ap (λ k. f a * times f (range_with_len (a + 1) n) * f k) e)
-
-pub times_more : (f : ℕ → ℕ) (n : ℕ) → times f (range_with_len 0 (n + 1)) ≡ times f (range_with_len 0 n) * f n
-times_more f n =
-    let z : 0 + n ≡ n = omega arith in
-    rw (add-one n) (times_last f 0 n ∙ ap (λ k. times f (range_with_len 0 n) * f k) z)
-
 pub times_le : (f g : ℕ → ℕ) (xs : List ℕ) → AllByRecursion (λ x. f x ≤ g x) xs → times f xs ≤ times g xs
 unfolding times
 times_le f g [] h = omega arith
@@ -101,18 +80,6 @@ pub times_pos : (f : ℕ → ℕ) (xs : List ℕ) → AllByRecursion (λ x. 1 �
 unfolding times
 times_pos f [] h = omega arith
 times_pos f (x ∷ xs) h = one-le-mul h.0 (times_pos f xs h.1)
-
--- a front of factors from 1 up makes no larger product
-pub times_front_le : (f : ℕ → ℕ) (i n : ℕ) → i ≤ n → ((k : ℕ) → k < n → 1 ≤ f k) → times f (range_with_len 0 i) ≤ times f (range_with_len 0 n)
-times_front_le f i zero h o = let e : i ≡ 0 = omega arith in rw e (le_refl (times f (range_with_len 0 0)))
-times_front_le f i (suc n) h o = go (cases_lt n i) (λ l. times_front_le f i n l (λ k b. o k (omega arith)))
-  where
-    go : (n < i) ⊎ (i ≤ n) → (i ≤ n → times f (range_with_len 0 i) ≤ times f (range_with_len 0 n)) → times f (range_with_len 0 i) ≤ times f (range_with_len 0 (suc n))
-    go (inl l) ih = let e : i ≡ suc n = omega arith in rw e (le_refl (times f (range_with_len 0 (suc n))))
-    go (inr l) ih =
-        let z : 0 + n ≡ n = omega arith in
-        let last : times f (range_with_len 0 (suc n)) ≡ times f (range_with_len 0 n) * f (0 + n) = times_last f 0 n in
-        rw last (rw z (le_trans (ih l) (le-mul_of_pos_right (times f (range_with_len 0 n)) (o n (omega arith)))))
 
 -- lists that differ in order alone
 pub data Reordered : List ℕ → List ℕ → Type 0 where

@@ -1,10 +1,10 @@
 -- What a plan holds, and when it is the plan of an array. Assumes nothing.
-use Rattle.std.specs.Prelude.{◌≡◌, ℕ, ◌+◌, ◌^◌, ◌<◌, ◌≤◌, cond, List, map, length, Some, None, Option, nat_lt, slice_index}
+use Rattle.std.specs.Prelude.{◌≡◌, ℕ, ◌+◌, ◌^◌, ◌<◌, cond, List, map, length, Some, None, Option, nat_lt, slice_index}
 use Rattle.shapes.specs.declared.dims.Dim.{Dim}
 use Rattle.shapes.specs.Arrays.{numbers, group}
 use Rattle.shapes.specs.Views.{six}
 use Rattle.plans.specs.declared.plan.Plan.{Plan}
-use Rattle.plans.specs.Plans.{earliest, plan_place, plan_adds, plan_need}
+use Rattle.plans.specs.Plans.{plan_place, plan_adds, plan_need}
 
 -- the dimension that the parent of the group with mask m adds
 abbrev pub added : Plan → ℕ → ℕ
@@ -17,15 +17,6 @@ parent_of p m = cond (nat_lt (m + 1) (2 ^ p.n)) (Some (m + 2 ^ added p m)) None
 -- the place of dimension i
 abbrev pub place_in : List ℕ → ℕ → ℕ
 place_in places i = slice_index places i
-
--- the dimension of earliest place that the group with mask m lacks
-abbrev pub earliest_in : List ℕ → ℕ → ℕ
-earliest_in places m = earliest (place_in places) (group (length places) m)
-
--- places by number: each is from 1 to their count, and no two are the same
-pub record Ordered (places : List ℕ) : Type 0 where
-  pub within : (i : ℕ) → i < length places → (1 ≤ place_in places i) × (place_in places i ≤ length places)
-  pub distinct : (i j : ℕ) → i < length places → j < length places → place_in places i ≡ place_in places j → i ≡ j
 
 -- the plan of the dimensions
 pub record Planned (ds : List Dim) (p : Plan) : Type 0 where

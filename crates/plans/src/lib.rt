@@ -4,7 +4,6 @@
 mod checks;
 mod making;
 mod plan;
-mod powers;
 mod queries;
 mod refusals;
 #[cfg(test)]

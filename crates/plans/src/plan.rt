@@ -5,6 +5,7 @@ ghost use Rattle.std.specs.Prelude.{ℕ, ◌+◌, ◌^◌, ◌<◌, ◌≤◌, s
 /// By mask, `adds` has the dimension that the group's parent adds, and 0 where there is no parent.
 #[derive(Clone, Copy)]
 pub struct Plan {
+    // A length beside its arrays, as in a shape: a plan is copied, which an `ArrayVec` is not.
     pub(crate) n: usize,
     pub(crate) places: [u32; 6],
     pub(crate) adds: [u8; 64],

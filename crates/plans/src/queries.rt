@@ -3,7 +3,6 @@ ghost use Rattle.std.specs.Prelude.{◌≡◌};
 ghost use Rattle.plans.specs.Views.{parent_of};
 
 use crate::plan::Plan;
-use crate::powers::power;
 
 impl Plan {
     /// The place of each dimension, from 1; 0 past the last dimension.
@@ -14,15 +13,12 @@ impl Plan {
     }
 
     /// The mask of a group's parent; the root has none, nor has a number that is no mask of the shape.
+    #[tactic(auto, using(crate::proofs::Few::few_masks))]
     pub fn parent(&self, mask: u32) -> Option<u32>
         ensures { result ≡ parent_of self.now mask }
     {
-        let root = power(self.n) - 1;
-        if mask < root {
-            let adds = self.adds[mask as usize];
-            return Some(mask + power(adds as usize));
-        }
-        None
+        let root = (1 << self.n) - 1;
+        (mask < root).then(|| mask + (1 << self.adds[mask as usize]))
     }
 
     /// By mask, the dimension that the parent of each group adds; 0 for the root and for what is no mask.

@@ -1,21 +1,18 @@
 -- What is told of a line of a price list. Assumes nothing.
-use Rattle.std.specs.Prelude.{ℕ, ◌*◌, cond, List, ◌++◌, length, Some, None, codes, decimal, Option, nat_le, slice_index}
-use Rattle.std.specs.List.{flat_map}
+use Rattle.std.specs.Prelude.{ℕ, ◌*◌, cond, List, ◌++◌, Some, None, codes, decimal, Option, nat_le, slice_index}
 use Rattle.shapes.specs.declared.dims.Dim.{Dim}
 use Rattle.shapes.specs.Limits.{Refusal, shape_fault}
 use Rattle.plans.specs.Plans.{plan_need}
+use Rattle.heads.specs.Heads.{dims_line, refused_lines}
 use Rattle.quotes.specs.Lines.{line_dims, trimmed}
 
 -- what a controller has for the cells of a run: 96 KiB
 abbrev pub controller_bytes : ℕ
 controller_bytes = 98304
 
--- a dimension as a field
-abbrev pub field_text : Dim → List ℕ
-field_text d = codes " " ++ (decimal d.size ++ (codes "/" ++ decimal d.edge))
-
+-- the line of the dimensions
 abbrev pub dims_text : List Dim → List ℕ
-dims_text ds = (codes "DIMS " ++ decimal (length ds)) ++ (flat_map field_text ds ++ codes "\n")
+dims_text ds = dims_line ds
 
 -- what the cells of a measure take in bytes, and whether a controller has them
 abbrev pub bytes_text : List ℕ → ℕ → List ℕ
@@ -28,7 +25,7 @@ cells_text need =
 
 -- the number of a refusal, and the dimension at fault, else 0
 abbrev pub refused_text : ℕ → ℕ → List ℕ
-refused_text number place = codes "DIMS 0\nREFUSED " ++ (decimal number ++ (codes " " ++ (decimal place ++ codes "\n")))
+refused_text number place = refused_lines number place
 
 abbrev pub no_shape_text : ℕ → List ℕ
 no_shape_text number = codes "LINE " ++ (decimal number ++ codes " IS NO SHAPE\n")

@@ -1,85 +1,84 @@
 // What is told of a line.
-ghost use Rattle.std.specs.Prelude.{◌≡◌, ◌*◌, ◌^◌, ◌<◌, ◌≤◌, ◌++◌, IfOk, string_bytes, codes};
+ghost use Rattle.std.specs.Prelude.{◌≡◌, ◌*◌, ◌^◌, ◌<◌, ◌≤◌, Some, IfOk, string_bytes};
 ghost use Rattle.shapes.specs.Limits.{shape_fault};
-ghost use Rattle.quotes.specs.Texts.{field_text, dims_text, bytes_text, cells_text, refused_text, no_shape_text, checked_text, quote_text};
+ghost use Rattle.quotes.specs.Texts.{bytes_text, cells_text, checked_text, quote_text};
 
 use crate::lines::{read_dims, trim};
+use heads::{DimsLine, RefusedLines};
 use plans::Plan;
 use shapes::{Cause, Dim, Shape};
 use std::alloc::{AllocError, Global};
+use std::fmt;
 
 const CONTROLLER_BYTES: u64 = 98_304;
 
 // What cells of one measure take, and whether a controller has room for them.
-fn bytes_part(heap: Global, letter: &str, bytes: u64) -> Result<String, AllocError>
-    ensures { IfOk result (λ s. string_bytes s ≡ bytes_text letter.now bytes) }
-{
-    if bytes <= CONTROLLER_BYTES {
-        return format!(in heap; " {letter} {bytes} FITS");
+#[derive(Clone, Copy)]
+struct Room<'a> {
+    letter: &'a str,
+    bytes: u64,
+}
+
+impl fmt::Display for Room<'_> {
+    ghost output = { λ room. Some (bytes_text room.letter.now room.bytes) };
+
+    fn fmt<W: fmt::Write>(&self, f: &mut fmt::Formatter<W>) -> fmt::Result {
+        let letter = self.letter;
+        let bytes = self.bytes;
+        if bytes <= CONTROLLER_BYTES {
+            return write!(f, " {letter} {bytes} FITS");
+        }
+        write!(f, " {letter} {bytes} OVER")
     }
-    format!(in heap; " {letter} {bytes} OVER")
 }
 
-// The line of the need, with what it takes for each measure.
-fn cells_line(heap: Global, need: u64) -> Result<String, AllocError>
-    requires { need ≤ 2 ^ 40 }
-    ensures { IfOk result (λ s. string_bytes s ≡ cells_text need) }
-{
-    let total = bytes_part(heap, "T", 16 * need)?;
-    let range = bytes_part(heap, "R", 8 * need)?;
-    let marks = bytes_part(heap, "M", 8 * need)?;
-    format!(in heap; "CELLS {need}{total}{range}{marks}\n")
+// The need, with what it takes for each measure. The letters and the bytes of a cell are those of the controller: quotes know no measures.
+#[derive(Clone, Copy)]
+struct Cells {
+    need: u64,
+    ghost small: { need ≤ 2 ^ 40 },
 }
 
-fn field(heap: Global, d: Dim) -> Result<String, AllocError>
-    ensures { IfOk result (λ s. string_bytes s ≡ field_text d) }
-{
-    let size = d.size;
-    let edge = d.edge;
-    format!(in heap; " {size}/{edge}")
-}
+impl fmt::Display for Cells {
+    ghost output = { λ cells. Some (cells_text cells.need) };
 
-// The line of the dimensions.
-fn dims_line(heap: Global, dims: &[Dim]) -> Result<String, AllocError>
-    ensures { IfOk result (λ s. string_bytes s ≡ dims_text dims.now) }
-{
-    let n = dims.len();
-    let mut text = format!(in heap; "DIMS {n}")?;
-    for d in dims {
-        text.push_str(field(heap, *d)?.as_str())?;
+    fn fmt<W: fmt::Write>(&self, f: &mut fmt::Formatter<W>) -> fmt::Result {
+        let need = self.need;
+        let total = Room {
+            letter: "T",
+            bytes: 16 * need,
+        };
+        let range = Room {
+            letter: "R",
+            bytes: 8 * need,
+        };
+        let marks = Room {
+            letter: "M",
+            bytes: 8 * need,
+        };
+        write!(f, "CELLS {need}{total}{range}{marks}\n")
     }
-    text.push_str("\n")?;
-    Ok(text)
 }
 
-fn refused_lines(heap: Global, number: u32, place: u64) -> Result<String, AllocError>
-    ensures { IfOk result (λ s. string_bytes s ≡ refused_text number place) }
-{
-    format!(in heap; "DIMS 0\nREFUSED {number} {place}\n")
-}
-
-fn no_shape_line(heap: Global, number: u64) -> Result<String, AllocError>
-    ensures { IfOk result (λ s. string_bytes s ≡ no_shape_text number) }
-{
-    format!(in heap; "LINE {number} IS NO SHAPE\n")
-}
-
-// The lines of a shape.
-fn shape_lines(heap: Global, dims: &[Dim], need: u64) -> Result<String, AllocError>
-    requires { need ≤ 2 ^ 40 }
-    ensures { IfOk result (λ s. string_bytes s ≡ dims_text dims.now ++ cells_text need) }
-{
-    let mut text = dims_line(heap, dims)?;
-    text.push_str(cells_line(heap, need)?.as_str())?;
-    Ok(text)
-}
-
+// The lines of a shape, or those of its refusal.
 fn shape_answer(heap: Global, dims: &[Dim]) -> Result<String, AllocError>
     ensures { IfOk result (λ s. string_bytes s ≡ checked_text (shape_fault dims.now) dims.now) }
 {
     match Shape::new(dims) {
-        Ok(shape) => shape_lines(heap, dims, Plan::of(&shape).need()),
-        Err(e) => refused_lines(heap, e.number(), e.place()),
+        Ok(shape) => {
+            let line = DimsLine(dims);
+            let cells = Cells {
+                need: Plan::of(&shape).need(),
+            };
+            format!(in heap; "{line}{cells}")
+        }
+        Err(e) => {
+            let refused = RefusedLines {
+                number: e.number(),
+                place: e.place(),
+            };
+            refused.to_string(heap)
+        }
     }
 }
 
@@ -87,8 +86,8 @@ fn shape_answer(heap: Global, dims: &[Dim]) -> Result<String, AllocError>
 pub fn answer_line(heap: Global, number: u64, line: &[u8]) -> Result<String, AllocError>
     ensures { IfOk result (λ s. string_bytes s ≡ quote_text number line.now) }
 {
-    let Some(dims) = read_dims(heap, trim(line))? else {
-        return no_shape_line(heap, number);
-    };
-    shape_answer(heap, dims.as_slice())
+    match read_dims(heap, trim(line))? {
+        Some(dims) => shape_answer(heap, dims.as_slice()),
+        None => format!(in heap; "LINE {number} IS NO SHAPE\n"),
+    }
 }

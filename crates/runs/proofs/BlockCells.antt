@@ -1,77 +1,28 @@
 -- The cells of a block in the regions of its group and of another: where they stand, and what is written and joined.
-use Rattle.std.proofs.Common.{◌≡◌, ℕ, zero, suc, ◌+◌, ◌-◌, ◌*◌, ◌^◌, ◌<◌, ◌≤◌, Bool, true, false, cond, eqb, ltb, ◌⊎◌, List, [], ◌∷◌, ◌++◌, map, length, get_or, take, replicate, sym, ap, ◌∙◌, subst, ap₂, inl, inr, add-zero, mul-le-mul_left, zero-add, mul-one, arith}
+use Rattle.std.proofs.Common.{◌≡◌, ℕ, ◌+◌, ◌-◌, ◌<◌, ◌≤◌, cond, eqb, ◌⊎◌, List, ◌++◌, map, length, get_or, take, replicate, sym, ap, ◌∙◌, subst, ap₂, inl, inr, zero-add, arith}
 use Rattle.std.proofs.lemmas.List.{get_or-map, length-map, ext_get_or}
 use Rattle.std.proofs.lemmas.List.FromFn.{get_or-map-range_with_len}
-use Rattle.std.proofs.lemmas.Bool.{cases_lt, ne_eqb}
+use Rattle.std.proofs.lemmas.Bool.{ne_eqb}
 use Rattle.shapes.specs.declared.dims.Dim.{Dim}
-use Rattle.shapes.specs.Arrays.{Group, product, digits, all_digits, radix, cleared, Below, sizes, edges, counts, chunks, dim, none_dim, keeps, cell_at}
+use Rattle.shapes.specs.Arrays.{Group, product, digits, all_digits, radix, cleared, Below, sizes, edges, counts, chunks, dim, none_dim, cell_at}
 use Rattle.shapes.specs.Views.{six}
 use Rattle.shapes.proofs.Numbering.{below_length, below_getD, digits_below, length_by_digits, getD_by_digits}
 use Rattle.measures.specs.Laws.{Lawful}
 use Rattle.sources.specs.Meanings.{Chunk}
 use Rattle.cubes.specs.Meanings.{meaning}
 use Rattle.cubes.specs.Summaries.{Divided, big, block}
-use Rattle.cubes.proofs.Cells.{length-radix, below_counts, below_edges, cell_below, chunk_of_cell, cleared_below}
+use Rattle.shapes.proofs.Radixes.{length-radix}
+use Rattle.cubes.proofs.Cells.{below_counts, below_edges, cell_below, chunk_of_cell, cleared_below}
 use Rattle.cubes.proofs.Joins.{join_empty, big_cong, big_none}
 use Rattle.cubes.proofs.Blocks.{length_block, getD_block}
 use Rattle.runs.specs.declared.layouts.Layout.{Layout}
 use Rattle.runs.specs.declared.layouts.Region.{Region}
-use Rattle.runs.specs.Boxes.{dot, joined_at, Positive}
-use Rattle.runs.specs.Layouts.{region_radix, region_radices, cell_number}
+use Rattle.runs.specs.Boxes.{dot, joined_at}
+use Rattle.runs.specs.Layouts.{region_radices, cell_number}
 use Rattle.runs.specs.Contents.{CompleteBlock}
-use Rattle.runs.specs.Grids.{radix_at, strides_in, start_of, Narrow, block_edges, Inside, ApartUnder, block_cells, block_joined, LaidOut, RegionOf}
-use Rattle.runs.proofs.CellNumbers.{cell_number_below, edge_positive}
-use Rattle.runs.proofs.Padding.{digits_pad, product_pad, below_pad, block_edges_are, block_cell_at, cells_before_in, radix_out}
-use Rattle.cubes.proofs.RegionCells.{product_counting}
-
--- the radices of a region that stands below 2 ^ 64 multiply within a machine word
-module _ (ds : List Dim) (place : ℕ → ℕ) (divided : Divided ds) (y : Layout) (laid : LaidOut ds place y) (k : Group) (lk : length k ≡ length ds) (base p : ℕ) (u : Region) (of : RegionOf ds k base p u) where
-  radix_positive : (i : ℕ) → i < length ds → 0 < region_radix ds place k p i
-  radix_positive i l = by (keeps k i) (ltb (place i) p)
-    where
-      size_positive : (ds : List Dim) (i : ℕ) → Divided ds → i < length ds → 0 < (dim ds i).size
-      size_positive [] i divided l = absurd (omega arith)
-      size_positive (d ∷ ds) zero divided l = omega (arith, divided.0.0, divided.0.1)
-      size_positive (d ∷ ds) (suc i) divided l = size_positive ds i divided.1 (omega arith)
-
-      by : (t v : Bool) → 0 < cond t (cond v (dim ds i).size (dim ds i).edge) 1
-      by true true = size_positive ds i divided l
-      by true false = edge_positive ds i divided l
-      by false v = omega arith
-
-  products_rise : (f : ℕ → ℕ) (i m : ℕ) → ((j : ℕ) → j < i + m → 0 < f j) → big 1 ◌*◌ f i ≤ big 1 ◌*◌ f (i + m)
-  products_rise f i zero pos = rw (add-zero i) (omega arith)
-  products_rise f i (suc m) pos = at (f (i + m)) (pos (i + m) (omega arith)) (products_rise f i m (λ j l. pos j (omega arith)))
-    where
-      at : (w : ℕ) → 0 < w → big 1 ◌*◌ f i ≤ big 1 ◌*◌ f (i + m) → big 1 ◌*◌ f i ≤ big 1 ◌*◌ f (i + suc m)
-      at w pos-w ih = omega (arith, ap (big 1 ◌*◌ f) (more i m), mul-le-mul_left (big 1 ◌*◌ f (i + m)) (pos (i + m) (omega arith)))
-        where
-          more : (i m : ℕ) → i + suc m ≡ suc (i + m)
-          more i m = omega arith
-
-  pub narrow : (n : ℕ) → base + product (region_radices ds place k p) ≤ n → n < 2 ^ 64 → Narrow y u
-  narrow n fits less i l = at (cases_lt i (length ds))
-    where
-      whole : big 1 ◌*◌ (region_radix ds place k p) (length ds) < 2 ^ 64
-      whole = omega (arith, product_counting (region_radix ds place k p) (length ds))
-
-      inner : (i : ℕ) → i ≤ length ds → big 1 ◌*◌ (radix_at y u) i < 2 ^ 64
-      inner i m =
-          let e : i + (length ds - i) ≡ length ds = omega arith in
-          omega (arith, cells_before_in ds place y laid k lk base p u of i m, products_rise (region_radix ds place k p) i (length ds - i) (λ j q. radix_positive j (omega arith)), ap (big 1 ◌*◌ (region_radix ds place k p)) e, whole)
-
-      outer : (m : ℕ) → length ds + m ≤ 6 → big 1 ◌*◌ (radix_at y u) (length ds + m) ≡ big 1 ◌*◌ (radix_at y u) (length ds)
-      outer zero q = ap (big 1 ◌*◌ (radix_at y u)) (add-zero (length ds))
-      outer (suc m) q = ap (big 1 ◌*◌ (radix_at y u)) (more (length ds) m) ∙ ap₂ ◌*◌ (outer m (omega arith)) (radix_out ds place y laid k lk base p u of (length ds + m) (omega arith) (omega arith)) ∙ mul-one (big 1 ◌*◌ (radix_at y u) (length ds))
-        where
-          more : (i m : ℕ) → i + suc m ≡ suc (i + m)
-          more i m = omega arith
-
-      at : (i < length ds) ⊎ (length ds ≤ i) → big 1 ◌*◌ (radix_at y u) i < 2 ^ 64
-      at (inl q) = inner i (omega arith)
-      at (inr q) =
-          let e : length ds + (i - length ds) ≡ i = omega arith in
-          omega (arith, ap (big 1 ◌*◌ (radix_at y u)) e, outer (i - length ds) (omega arith), inner (length ds) (omega arith))
+use Rattle.runs.specs.Grids.{strides_in, start_of, block_edges, Inside, ApartUnder, block_cells, block_joined, LaidOut, RegionOf}
+use Rattle.runs.proofs.CellNumbers.{cell_number_below}
+use Rattle.runs.proofs.Padding.{digits_pad, product_pad, below_pad, block_edges_are, block_cell_at}
 
 module _ (ds : List Dim) (place : ℕ → ℕ) (divided : Divided ds) (y : Layout) (laid : LaidOut ds place y) (g : Group) (lg : length g ≡ length ds) (c c6 : List ℕ) (below_c : Below (radix g (counts ds)) c) (padded : c6 ≡ six 0 c) where
   counts_c : Below (counts ds) c
@@ -105,29 +56,12 @@ module _ (ds : List Dim) (place : ℕ → ℕ) (divided : Divided ds) (y : Layou
     reached_below ls b = cell_number_below ds place divided k p (cell_at ds c ls) (sizes_of ls b)
 
     -- what the functions require of the region
-    pub inside : (r : Region) (base_r p_r : ℕ) → RegionOf ds g base_r p_r r → (n : ℕ) → base + product (region_radices ds place k p) ≤ n → n < 2 ^ 64 → Inside y u (block_edges y r) c6 n
-    inside r base_r p_r of_r n fits less = (
-      narrow ds place divided y laid k lk base p u of n fits less,
-      λ ls b.
-          let q = below_pad (radix g (edges ds)) (6 - length ds) ls (subst (λ z. Below z ls) (block_edges_are ds place y laid g lg base_r p_r r of_r) b) in
-          omega (arith, ap (dot (strides_in y u)) q.1, reached (take (length (radix g (edges ds))) ls) q.0, reached_below (take (length (radix g (edges ds))) ls) q.0),
-    )
+    pub inside : (r : Region) (base_r p_r : ℕ) → RegionOf ds g base_r p_r r → (n : ℕ) → base + product (region_radices ds place k p) ≤ n → Inside y u (block_edges y r) c6 n
+    inside r base_r p_r of_r n fits ls b =
+        let q = below_pad (radix g (edges ds)) (6 - length ds) ls (subst (λ z. Below z ls) (block_edges_are ds place y laid g lg base_r p_r r of_r) b) in
+        omega (arith, ap (dot (strides_in y u)) q.1, reached (take (length (radix g (edges ds))) ls) q.0, reached_below (take (length (radix g (edges ds))) ls) q.0)
 
   module _ (base p : ℕ) (r : Region) (of : RegionOf ds g base p r) where
-    pub positive : Positive (block_edges y r)
-    positive = subst Positive (sym (block_edges_are ds place y laid g lg base p r of)) (pads (radix g (edges ds)) (6 - length ds) (kept g ds lg divided))
-      where
-        kept : (g : Group) (ds : List Dim) → length g ≡ length ds → Divided ds → Positive (radix g (edges ds))
-        kept [] ds l divided = tt
-        kept (b ∷ g) [] l divided = tt
-        kept (true ∷ g) (d ∷ ds) l divided = (omega (arith, divided.0.0), kept g ds (omega arith) divided.1)
-        kept (false ∷ g) (d ∷ ds) l divided = (omega arith, kept g ds (omega arith) divided.1)
-
-        pads : (ks : List ℕ) (m : ℕ) → Positive ks → Positive (ks ++ replicate m 1)
-        pads [] zero q = tt
-        pads [] (suc m) q = (omega arith, pads [] m tt)
-        pads (k ∷ ks) m q = (q.0, pads ks m q.1)
-
     pub block_edges_product : product (block_edges y r) ≡ product (radix g (edges ds))
     block_edges_product = ap product (block_edges_are ds place y laid g lg base p r of) ∙ product_pad (radix g (edges ds)) (6 - length ds)
 

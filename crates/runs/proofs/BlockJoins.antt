@@ -12,13 +12,13 @@ use Rattle.sources.specs.Meanings.{Chunk}
 use Rattle.plans.specs.Plans.{Order}
 use Rattle.cubes.specs.Meanings.{meaning}
 use Rattle.cubes.specs.Summaries.{Divided, big, direct, contribution, parent_block, projected_offset}
-use Rattle.cubes.specs.Scans.{scan_number, InRegion}
+use Rattle.cubes.specs.Scans.{InRegion}
 use Rattle.cubes.proofs.Cells.{below_cleared, below_counts, below_edges, below_fewer, cell_below, cell_cleared, chunk_of_cell, local_of_cell, local_below, chunk_below, cleared_below, cleared-set, cleared_from_agrees, agrees_same, cell_parent, below_set}
 use Rattle.cubes.proofs.Joins.{join_empty, big_cong, big_none}
 use Rattle.cubes.proofs.Summaries.{agrees_cleared, divided_at}
 use Rattle.cubes.proofs.Blocks.{projected_join}
 use Rattle.cubes.proofs.RegionSteps.{getD_cleared}
-use Rattle.cubes.proofs.Regions.{Holds, Joined, holds_joined}
+use Rattle.cubes.proofs.Regions.{Joined}
 use Rattle.runs.specs.Layouts.{region_cells, cell_number}
 use Rattle.runs.specs.Contents.{CompleteBlock}
 use Rattle.runs.proofs.CellNumbers.{cell_number_below, cell_number_same, cell_number_apart}
@@ -234,9 +234,3 @@ module _ {M : Type 0} (empty : M) (join : M → M → M) (laws : Lawful empty jo
             (big_cong empty join laws (λ l. get_or s (above (set x e (k * edge + l))) empty) (λ l. direct empty join (meaning ds mean) (set h e true) (set x e (k * edge + l))) edge (summary t))
         by (inr t) = ap (λ z. cond z (join (get_or s (slot x) empty) (big empty join (λ l. get_or s (above (set x e (k * edge + l))) empty) edge)) (get_or s (slot x) empty)) t
             ∙ sym (ap (λ z. cond z (join (get_or s (slot x) empty) (contribution empty join (meaning ds mean) h e x k)) (get_or s (slot x) empty)) t)
-
-    -- so the region goes from what the blocks of scan number below d give to what those below d + 1 give
-    pub holds_cells : (d : ℕ) → scan_number place (radix (set h e true) (counts ds)) c ≡ d
-        → Holds empty join laws ds mean place order divided h e lh le lacks slot (λ q. get_or s q empty) d c
-        → Holds empty join laws ds mean place order divided h e lh le lacks slot (λ q. get_or s' q empty) (d + 1) c
-    holds_cells d now holds = holds_joined empty join laws ds mean place order divided h e lh le lacks slot c below_c (λ q. get_or s q empty) (λ q. get_or s' q empty) d now holds joined_cells

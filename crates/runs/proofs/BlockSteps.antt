@@ -13,13 +13,13 @@ use Rattle.plans.specs.Plans.{need}
 use Rattle.cubes.specs.Summaries.{Divided, block}
 use Rattle.runs.specs.declared.layouts.Layout.{Layout}
 use Rattle.runs.specs.declared.layouts.Region.{Region}
-use Rattle.runs.specs.Boxes.{emptied, joined_at, Positive}
+use Rattle.runs.specs.Boxes.{emptied, joined_at}
 use Rattle.runs.specs.Layouts.{lacked_place, mask_cells, mask_base, standing}
-use Rattle.runs.specs.Grids.{block_edges, cells_in, strides_in, start_of, Narrow, Inside, ApartUnder, block_cells, block_joined, LaidOut, RegionOf, region_at, Bases}
+use Rattle.runs.specs.Grids.{block_edges, cells_in, strides_in, start_of, Inside, ApartUnder, block_cells, block_joined, LaidOut, RegionOf, region_at, Bases}
 use Rattle.runs.specs.Contents.{CompleteBlock, SameRegion, EmptyRegion}
 use Rattle.runs.proofs.RegionBases.{region_within, regions_apart}
-use Rattle.runs.proofs.BlockCells.{positive, block_edges_product, inside, disjoint, written_direct, joins_keep}
-use Rattle.runs.proofs.Tables.{region_is, cells_are, bases_are, region_narrow}
+use Rattle.runs.proofs.BlockCells.{block_edges_product, inside, disjoint, written_direct, joins_keep}
+use Rattle.runs.proofs.Tables.{region_is, cells_are, bases_are}
 
 -- the cells after the n from b on are emptied
 module _ {M : Type 0} (empty : M) (s : List M) (b n : ℕ) (fits : b + n ≤ length s) where
@@ -86,16 +86,13 @@ module _ (ds : List Dim) (place : ℕ → ℕ) (adds : Group → ℕ) (divided :
     lg : length g ≡ length ds
     lg = length-group n m
 
-    pub edges_positive : Positive (block_edges y (region m))
-    edges_positive = positive ds place divided y laid g lg c (six 0 c) below_c refl (mask_base ds place adds m) (lacked_place ds place adds m) (region m) (region_here m lm)
-
     pub block_length : product (block_edges y (region m)) ≡ product (radix g (edges ds))
     block_length = block_edges_product ds place divided y laid g lg c (six 0 c) below_c refl (mask_base ds place adds m) (lacked_place ds place adds m) (region m) (region_here m lm)
 
     -- its cells, and those of another region under it, stand within the cells
-    pub block_inside : (k len : ℕ) → k ≤ root → need ds place adds ≤ len → len < 2 ^ 64 → Inside y (region k) (block_edges y (region m)) (six 0 c) len
-    block_inside k len lk enough small = inside ds place divided y laid g lg c (six 0 c) below_c refl (group n k) (length-group n k) (mask_base ds place adds k) (lacked_place ds place adds k) (region k) (region_here k lk)
-        (region m) (mask_base ds place adds m) (lacked_place ds place adds m) (region_here m lm) len (fits k len lk enough) small
+    pub block_inside : (k len : ℕ) → k ≤ root → need ds place adds ≤ len → Inside y (region k) (block_edges y (region m)) (six 0 c) len
+    block_inside k len lk enough = inside ds place divided y laid g lg c (six 0 c) below_c refl (group n k) (length-group n k) (mask_base ds place adds k) (lacked_place ds place adds k) (region k) (region_here k lk)
+        (region m) (mask_base ds place adds m) (lacked_place ds place adds m) (region_here m lm) len (fits k len lk enough)
 
     pub block_apart : (k : ℕ) → k ≤ root → (m ≡ k → ⊥) → ApartUnder y (region m) (region k) (six 0 c)
     block_apart k lk ne = disjoint ds place divided y laid g lg c (six 0 c) below_c refl (mask_base ds place adds m) (lacked_place ds place adds m) (region m) (region_here m lm)
@@ -122,11 +119,8 @@ module _ (ds : List Dim) (place : ℕ → ℕ) (adds : Group → ℕ) (divided :
 
   -- a region emptied
   module _ {M : Type 0} (empty : M) (s : List M) (m : ℕ) (lm : m ≤ root) (enough : need ds place adds ≤ length s) where
-    pub region_ready : need ds place adds < 2 ^ 64 → Narrow y (region m) × ((region m).base + cells_in y (region m) ≤ length s)
-    region_ready small = (
-      region_narrow ds place adds divided y laid table root is_root adding m (get_or bases m 0) lm small,
-      omega (arith, bases_are ds place adds divided y laid table root is_root adding bases based m lm, cells_are ds place adds divided y laid table root is_root adding m (get_or bases m 0) lm, fits m (length s) lm enough),
-    )
+    pub region_ready : (region m).base + cells_in y (region m) ≤ length s
+    region_ready = omega (arith, bases_are ds place adds divided y laid table root is_root adding bases based m lm, cells_are ds place adds divided y laid table root is_root adding m (get_or bases m 0) lm, fits m (length s) lm enough)
 
     emptied_is : emptied empty s (region m).base (cells_in y (region m)) ≡ emptied empty s (mask_base ds place adds m) (mask_cells ds place adds m)
     emptied_is = ap₂ (emptied empty s) (bases_are ds place adds divided y laid table root is_root adding bases based m lm) (cells_are ds place adds divided y laid table root is_root adding m (get_or bases m 0) lm)

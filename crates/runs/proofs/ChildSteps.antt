@@ -51,9 +51,9 @@ module _ (ds : List Dim) (place : ℕ → ℕ) (adds : Group → ℕ) (divided :
 
   module _ (c : List ℕ) (below_c : Below (radix (group n p) (counts ds)) c) where
     -- what a join into each child requires
-    pub children_ready : (e len : ℕ) → e < 6 → child_at table p e ≡ true → need ds place adds ≤ len → len < 2 ^ 64 → Joinable y (region p) (region (p - 2 ^ e)) (six 0 c) len
-    children_ready e len l t enough small = (
-      block_inside ds place adds divided y laid table root is_root adding bases based p lp c below_c (p - 2 ^ e) len (omega arith) enough small,
+    pub children_ready : (e len : ℕ) → e < 6 → child_at table p e ≡ true → need ds place adds ≤ len → Joinable y (region p) (region (p - 2 ^ e)) (six 0 c) len
+    children_ready e len l t enough = (
+      block_inside ds place adds divided y laid table root is_root adding bases based p lp c below_c (p - 2 ^ e) len (omega arith) enough,
       block_apart ds place adds divided y laid table root is_root adding bases based p lp c below_c (p - 2 ^ e) (omega arith) (child_differs e l t),
     )
 

@@ -1,12 +1,11 @@
 -- The children of a group, and a block joined into the regions of all of them.
-use Rattle.std.proofs.Common.{◌≡◌, ℕ, ◌+◌, ◌-◌, ◌%◌, ◌^◌, ◌<◌, ◌≤◌, true, false, cond, eqb, ◌⊎◌, List, get_or, sym, ap, ◌∙◌, subst, inl, inr, add-one}
+use Rattle.std.proofs.Common.{◌≡◌, ℕ, ◌+◌, ◌-◌, ◌%◌, ◌^◌, ◌<◌, ◌≤◌, Bool, true, false, cond, eqb, ◌⊎◌, List, get_or, Some, None, sym, refl, ap, ◌∙◌, subst, inl, inr, add-one, arith}
 use native.Mathlib.Nat.{div-eq_of_lt}
 use Rattle.std.proofs.lemmas.Bool.{cases_lt, both_ways, eqb-true, and_parts}
-use Rattle.shapes.specs.Arrays.{product, group}
+use Rattle.shapes.specs.Arrays.{group}
 use Rattle.shapes.proofs.Masks.{keeps_bit}
 use Rattle.runs.specs.declared.layouts.Layout.{Layout}
 use Rattle.runs.specs.declared.layouts.Region.{Region}
-use Rattle.runs.specs.Boxes.{Positive}
 use Rattle.runs.specs.Grids.{block_edges, block_joined, Inside, ApartUnder, Joinable, region_by, child_at, children_joined}
 
 -- a mask is at least 2 ^ e where its group keeps e
@@ -22,6 +21,15 @@ child_kept adds p e t = (and_parts (get_or (group 6 p) e false) (eqb (get_or add
 
 pub child_adds : (adds : List ℕ) (p e : ℕ) → child_at adds p e ≡ true → get_or adds (p - 2 ^ e) 0 ≡ e
 child_adds adds p e t = eqb-true (get_or adds (p - 2 ^ e) 0) e (and_parts (get_or (group 6 p) e false) (eqb (get_or adds (p - 2 ^ e) 0) e) t).1
+
+-- what a search for a child answers
+pub child_found : (b : Bool) (v w : ℕ) → cond b (Some v) None ≡ Some w → (b ≡ true) × (v ≡ w)
+child_found true v w e = (refl, cc)
+child_found false v w e = absurd (let z : ◌≡◌ {A = ℕ} 0 1 = cc in omega arith)
+
+pub child_none : (b : Bool) (v : ℕ) → cond b (Some v) None ≡ None → b ≡ false
+child_none true v e = absurd (let z : ◌≡◌ {A = ℕ} 0 1 = cc in omega arith)
+child_none false v e = refl
 
 module _ {M : Type 0} (empty : M) (op : M → M → M) (s : List M) (y : Layout) (adds bases : List ℕ) (root p : ℕ) (c : List ℕ) where
   abbrev after : ℕ → List M
@@ -39,10 +47,9 @@ module _ {M : Type 0} (empty : M) (op : M → M → M) (s : List M) (y : Layout)
   other_step k now inv t = inv ∙ sym (next k ∙ ap (λ z. cond z (block_joined empty op (after k) y (region_by y adds bases root p) (region_by y adds bases root (p - 2 ^ k)) c) (after k)) t)
 
 abbrev Ready : Layout → Region → Region → List ℕ → ℕ → Type 0
-Ready y r u c n = Positive (block_edges y r) × (product (block_edges y r) < 2 ^ 64) × Inside y r (block_edges y r) c n × Inside y u (block_edges y r) c n × ApartUnder y r u c
+Ready y r u c n = Inside y r (block_edges y r) c n × Inside y u (block_edges y r) c n × ApartUnder y r u c
 
 -- what a join requires, of regions that are the same
-pub ready_same : (y : Layout) (r r' u u' : Region) (c : List ℕ) (n n' : ℕ) → r' ≡ r → u' ≡ u → n' ≡ n → Positive (block_edges y r) → product (block_edges y r) < 2 ^ 64
-    → Inside y r (block_edges y r) c n → Joinable y r u c n → Ready y r' u' c n'
-ready_same y r r' u u' c n n' er eu en positive small own joinable =
-    subst (λ z. Ready y z u' c n') (sym er) (subst (λ z. Ready y r z c n') (sym eu) (subst (Ready y r u c) (sym en) (positive, small, own, joinable.0, joinable.1)))
+pub ready_same : (y : Layout) (r r' u u' : Region) (c : List ℕ) (n n' : ℕ) → r' ≡ r → u' ≡ u → n' ≡ n → Inside y r (block_edges y r) c n → Joinable y r u c n → Ready y r' u' c n'
+ready_same y r r' u u' c n n' er eu en own joinable =
+    subst (λ z. Ready y z u' c n') (sym er) (subst (λ z. Ready y r z c n') (sym eu) (subst (Ready y r u c) (sym en) (own, joinable.0, joinable.1)))

@@ -50,14 +50,14 @@ module _ {M : Type 0} (empty : M) (b : Moment M) (es : List Dim) (k : ℕ) (is :
     where
       by : (passed (view b) < total_chunks ds) ⊎ (total_chunks ds ≤ passed (view b)) → passed (view b) < total_chunks ds
       by (inl l) = l
-      by (inr l) = absurd (is.left (omega (arith, b.state.within, b.state.passes)))
+      by (inr l) = absurd (is.left (omega (arith, b.state.controls.within, b.state.passes)))
 
   -- all that was released was handed out
   all_handed : b.state.control.handed ≡ released_after ds (passed (view b))
   all_handed = omega (
     arith,
     ltb-false b.state.control.handed (released_after ds (passed (view b))) is.idle,
-    b.state.until,
+    b.state.controls.until,
     released_is ds b.state.control.passed,
     ap (released_after ds) b.state.passes,
   )
@@ -173,26 +173,6 @@ empty_when empty v (faulty cause entry) e = (refl, tt)
 -- The calls
 
 module _ {M : Type 0} (empty : M) (op : M → M → M) (σ : Meaning M) (b : Moment M) where
-  -- refused before the fetch
-  nothing_fetched : (e : RunRefusal) → next_chunk (view b) σ.dims ≡ Err e → Fetches empty σ.dims b false b
-  nothing_fetched e is = record { state_stays = λ _. refl; unfetched = λ _. refl; cells_stay = λ _ _. refl; others_stay = λ _ _. refl; past_stay = refl; clean = λ c. c }
-
-  pub takes_nothing : (e : RunRefusal) → next_chunk (view b) σ.dims ≡ Err e → Takes empty op σ b (Err e) b
-  takes_nothing e is = record {
-    answers = sym (ap (λ r. then_chunk r (λ k. take_read (passed (view b)) k (σ.chunk k))) is);
-    counts = refl;
-    fetches = nothing_fetched e is;
-    represents = λ _ _ r. r;
-  }
-
-  pub skips_nothing : (e : RunRefusal) → next_chunk (view b) σ.dims ≡ Err e → Skips empty op σ b (Err e) b
-  skips_nothing e is = record {
-    answers = sym (ap (λ r. then_chunk r (λ k. skip_read (σ.chunk k))) is);
-    counts = refl;
-    fetches = nothing_fetched e is;
-    represents = λ _ _ r. r;
-  }
-
   -- what the fetch requires
   pub number_within : (k : ℕ) → next_chunk (view b) σ.dims ≡ Ok k → k < total_chunks σ.dims
   number_within k found =

@@ -112,11 +112,6 @@ module _ (ks ss a now : List ℕ) (i f F : ℕ) (la : length a ≡ length ks) (l
 pub next_digits_none : (ks a : List ℕ) (i : ℕ) → length a ≡ length ks → length ks ≤ i → replicate i 0 ++ next_digits (drop i ks) (drop i a) ≡ replicate i 0 ++ drop i a
 next_digits_none ks a i la h = ap₂ (λ x y. replicate i 0 ++ next_digits x y) (drop_all i ks h) (drop_all i a (omega arith)) ∙ ap (λ y. replicate i 0 ++ y) (sym (drop_all i a (omega arith)))
 
-pub dot_none : (n : ℕ) (ls : List ℕ) → dot (replicate n 0) ls ≡ 0
-dot_none zero ls = refl
-dot_none (suc n) [] = refl
-dot_none (suc n) (l ∷ ls) = omega (arith, dot_none n ls)
-
 -- a walk at the offset o, one step on
 module _ (ks : List ℕ) (o : ℕ) (a : List ℕ) (pos : Positive ks) (at_o : a ≡ digits ks o) where
   pub walk_below : Below ks a

@@ -32,7 +32,7 @@ use Rattle.runs.specs.Answers.{passed}
 use Rattle.runs.specs.Holdings.{Moment, dims_in, view, root_mask, Clean, Represents}
 use Rattle.runs.specs.Steps.{IsNextBlock}
 use Rattle.runs.specs.Calls.{PastStay, next_block}
-use Rattle.runs.specs.Emptying.{release_over, EmptiedOver, joined_on, PassesBlock}
+use Rattle.runs.specs.Emptying.{block_in, release_over, EmptiedOver, joined_on, PassesBlock}
 use Rattle.runs.proofs.RegionBases.{region_within, standing_within}
 use Rattle.runs.proofs.HeldRegions.{held_block}
 use Rattle.runs.proofs.BlockSteps.{written_block, length_joined, joined_outside}
@@ -40,7 +40,7 @@ use Rattle.runs.proofs.ChildSteps.{child_differs, length_children, children_keep
 use Rattle.runs.proofs.HandCells.{all_held}
 use Rattle.runs.proofs.Stepping.{released_few, next_is}
 use Rattle.runs.proofs.PlannedScans.{planned_scan, need_is, handing_is, released_is}
-use Rattle.runs.proofs.FromState.{divided_in, controls_in, laid_in, top_is, adding_in, based_in}
+use Rattle.runs.proofs.FromState.{divided_in, controls_in, laid_in, same_top, top_is, adding_in, based_in}
 use Rattle.runs.proofs.Holding.{Holds, holds_of, represents_of, of_shape, root_empty_is}
 use Rattle.runs.proofs.NextReleases.{of_release_is, release_root, next_release, root_count}
 
@@ -163,9 +163,10 @@ module _ {M : Type 0} (empty : M) (op : M → M → M) (lawful : Lawful empty op
 
   -- the block is written as the direct summaries
   pub hand_written : (σ : Meaning M) → Represents empty op σ b
-      → block_cells empty b.cells s.layout (region_by s.layout s.control.tree.adds s.bases top p) x.at ≡ block empty op σ (next_block b).of c
-  hand_written σ r = ap (block_cells empty b.cells s.layout (region_by s.layout s.control.tree.adds s.bases top p)) next.at
-      ∙ written_block ds place adds (divided_in s) s.layout (laid_in s) s.control.tree.adds top (top_is s) (adding_in s) s.bases (based_in s) p mask_within c block_below empty op lawful σ.chunk b.cells
+      → block_in empty b.cells s x ≡ block empty op σ (next_block b).of c
+  hand_written σ r = ap (λ k. block_cells empty b.cells s.regions.layout (region_by s.regions.layout s.regions.layout.adds s.regions.bases k p) x.at) (same_top s)
+      ∙ ap (block_cells empty b.cells s.regions.layout (region_by s.regions.layout s.regions.layout.adds s.regions.bases top p)) next.at
+      ∙ written_block ds place adds (divided_in s) s.regions.layout (laid_in s) s.regions.layout.adds top (top_is s) (adding_in s) s.regions.bases (based_in s) p mask_within c block_below empty op lawful σ.chunk b.cells
       (whole σ.chunk (holds_of empty op b σ r))
       ∙ ap₂ (λ τ g. block empty op τ g c) (of_shape empty op b σ r.same_shape) (sym next.of)
 
@@ -184,10 +185,11 @@ module _ {M : Type 0} (empty : M) (op : M → M → M) (lawful : Lawful empty op
 
     -- the cells after the join
     abbrev joined : List M
-    joined = children_joined empty op b.cells s.layout s.control.tree.adds s.bases top p (six 0 c) 6
+    joined = children_joined empty op b.cells s.regions.layout s.regions.layout.adds s.regions.bases top p (six 0 c) 6
 
     joined_is : joined_on empty op b x ≡ joined
-    joined_is = ap (λ z. children_joined empty op b.cells s.layout s.control.tree.adds s.bases top p z 6) next.at
+    joined_is = ap (λ k. children_joined empty op b.cells s.regions.layout s.regions.layout.adds s.regions.bases k p x.at 6) (same_top s)
+        ∙ ap (λ z. children_joined empty op b.cells s.regions.layout s.regions.layout.adds s.regions.bases top p z 6) next.at
 
     emptied : EmptiedOver empty ds p a.state.control.next joined a.cells
     emptied = subst (λ z. EmptiedOver empty ds p a.state.control.next z a.cells) joined_is on.emptied
@@ -197,7 +199,7 @@ module _ {M : Type 0} (empty : M) (op : M → M → M) (lawful : Lawful empty op
     nothing k = faulty 0 0
 
     long_joined : length joined ≡ length b.cells
-    long_joined = length_children ds place adds (divided_in s) s.layout (laid_in s) s.control.tree.adds top (top_is s) (adding_in s) s.bases (based_in s) p mask_within c block_below empty op lawful
+    long_joined = length_children ds place adds (divided_in s) s.regions.layout (laid_in s) s.regions.layout.adds top (top_is s) (adding_in s) s.regions.bases (based_in s) p mask_within c block_below empty op lawful
         nothing b.cells many 6
 
     pub hand_length : length a.cells ≡ length b.cells
@@ -207,7 +209,7 @@ module _ {M : Type 0} (empty : M) (op : M → M → M) (lawful : Lawful empty op
     pub hand_past : PastStay b a
     hand_past = same_drops empty a.cells b.cells (need_of ds) hand_length
         (λ q l. emptied.past q l
-        ∙ children_past ds place adds (divided_in s) s.layout (laid_in s) s.control.tree.adds top (top_is s) (adding_in s) s.bases (based_in s) p mask_within c block_below empty op lawful
+        ∙ children_past ds place adds (divided_in s) s.regions.layout (laid_in s) s.regions.layout.adds top (top_is s) (adding_in s) s.regions.bases (based_in s) p mask_within c block_below empty op lawful
         nothing b.cells many 6 q (omega (arith, need_is ds)))
 
     -- a turn ends exactly where a release is over
@@ -255,13 +257,13 @@ module _ {M : Type 0} (empty : M) (op : M → M → M) (lawful : Lawful empty op
 
     root_stays : ltb (i + 1) (released_after ds (passed (view b))) ≡ true → SameRegion empty ds place adds top b.cells a.cells
     root_stays w q lo hi = emptied.others top top_below (root_over ∙ ap not w) q lo hi
-        ∙ children_keep ds place adds (divided_in s) s.layout (laid_in s) s.control.tree.adds top (top_is s) (adding_in s) s.bases (based_in s) p mask_within c block_below empty op lawful nothing
+        ∙ children_keep ds place adds (divided_in s) s.regions.layout (laid_in s) s.regions.layout.adds top (top_is s) (adding_in s) s.regions.bases (based_in s) p mask_within c block_below empty op lawful nothing
         b.cells many 6 top (omega arith) (omega arith)
-        (λ e l t z. child_differs ds place adds (divided_in s) s.layout (laid_in s) s.control.tree.adds top (top_is s) (adding_in s) s.bases (based_in s) p mask_within e l t (omega (arith, mask_within))) q lo hi
+        (λ e l t z. child_differs ds place adds (divided_in s) s.regions.layout (laid_in s) s.regions.layout.adds top (top_is s) (adding_in s) s.regions.bases (based_in s) p mask_within e l t (omega (arith, mask_within))) q lo hi
 
     hand_holds : (f : ℕ → Chunk M) → Holds empty op ds f (passed (view b)) i b.cells → Holds empty op ds f (passed (view b)) (i + 1) a.cells
     hand_holds f holds = record {
-      regions = λ k l. all_held empty op lawful (meaning ds f) place adds (divided_in s) S s.layout (laid_in s) s.control.tree.adds top (top_is s) (adding_in s) s.bases (based_in s)
+      regions = λ k l. all_held empty op lawful (meaning ds f) place adds (divided_in s) S s.regions.layout (laid_in s) s.regions.layout.adds top (top_is s) (adding_in s) s.regions.bases (based_in s)
           i (next_block b) among is p mask_within next.of b.cells a.cells many (whole f holds)
           (λ m lm z. emptied.others m (omega arith) (goes_on (release_over ds adds p a.state.control.next m) _ _ (ends f m lm) z))
           (λ m lm z. emptied.over m (omega arith) (is_over (release_over ds adds p a.state.control.next m) _ _ (ends f m lm) z))

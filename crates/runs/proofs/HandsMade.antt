@@ -11,7 +11,7 @@ use Rattle.runs.specs.declared.layouts.Region.{Region}
 use Rattle.runs.specs.declared.refusals.RunRefusal.TheVariants.{TooFew, NoBlock, ShortBuffer}
 use Rattle.runs.specs.declared.steps.NextBlock.{NextBlock}
 use Rattle.runs.specs.Boxes.{box_cells, dot}
-use Rattle.runs.specs.Grids.{block_edges, strides_in, start_of, region_by}
+use Rattle.runs.specs.Grids.{block_edges, strides_in, start_of, region_by, region_in}
 use Rattle.runs.specs.Planned.{places_of, adds_of, need_of, block_size, block_after}
 use Rattle.runs.specs.Answers.{View, too_few, waits, hand_name, hand_answer, one_handed}
 use Rattle.runs.specs.Holdings.{Moment, dims_in, view, root_mask}
@@ -19,7 +19,7 @@ use Rattle.runs.specs.Steps.{IsNextBlock}
 use Rattle.runs.specs.Calls.{Hands, next_block}
 use Rattle.runs.specs.Emptying.{block_in, PassesBlock}
 use Rattle.runs.proofs.BlockSteps.{block_length}
-use Rattle.runs.proofs.FromState.{divided_in, laid_in, top_is, adding_in, based_in}
+use Rattle.runs.proofs.FromState.{divided_in, laid_in, same_top, top_is, adding_in, based_in}
 use Rattle.runs.proofs.HandedOn.{mask_within, block_below, hand_written, hand_length, hand_past, hand_represents, hand_clean}
 
 -- a hand is accepted only with enough cells, and room for the block
@@ -49,13 +49,14 @@ module _ {M : Type 0} (empty : M) (op : M → M → M) (lawful : Lawful empty op
   size = block_size ds (next_block b)
 
   abbrev region : Region
-  region = region_by b.state.layout b.state.control.tree.adds b.state.bases (root_mask ds) x.mask
+  region = region_in b.state.regions x.mask
 
   -- as many cells as the block has
   pub length_block : length (block_in empty b.cells b.state x) ≡ size
-  length_block = length_box empty b.cells (block_edges b.state.layout region) (start_of b.state.layout region x.at) (strides_in b.state.layout region)
-      ∙ block_length ds (places_of ds) (adds_of ds) (divided_in b.state) b.state.layout (laid_in b.state) b.state.control.tree.adds (root_mask ds) (top_is b.state) (adding_in b.state)
-      b.state.bases (based_in b.state) x.mask (mask_within empty op lawful b x next) (next_block b).at (block_below empty op lawful b x next)
+  length_block = length_box empty b.cells (block_edges b.state.regions.layout region) (start_of b.state.regions.layout region x.at) (strides_in b.state.regions.layout region)
+      ∙ ap (λ k. product (block_edges b.state.regions.layout (region_by b.state.regions.layout b.state.regions.layout.adds b.state.regions.bases k x.mask))) (same_top b.state)
+      ∙ block_length ds (places_of ds) (adds_of ds) (divided_in b.state) b.state.regions.layout (laid_in b.state) b.state.regions.layout.adds (root_mask ds) (top_is b.state) (adding_in b.state)
+      b.state.regions.bases (based_in b.state) x.mask (mask_within empty op lawful b x next) (next_block b).at (block_below empty op lawful b x next)
       ∙ ap (λ g. product (radix g (edges ds))) (sym next.of)
 
   -- accepted: the block was written, and the run went on

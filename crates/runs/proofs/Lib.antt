@@ -1,4 +1,5 @@
 pub mod Widths
+mod SixRadices
 pub mod Growing
 pub mod Filling
 pub mod PlanTrees
@@ -8,6 +9,7 @@ pub mod Steering
 pub mod Stepping
 mod Digits
 mod Rows
+mod RowWalks
 mod Joining
 mod Strides
 mod CellNumbers
@@ -25,6 +27,8 @@ mod HandCells
 mod Known
 mod FromShape
 mod PlannedScans
+mod Narrows
+mod LaidRegions
 mod FromState
 mod RegionsStand
 mod Holding
@@ -44,7 +48,6 @@ pub mod LivingScans
 pub mod LivingChunks
 mod LivingSteps
 mod LivingRuns
-mod RegionEmptied
 mod NextReleases
 mod HandedOn
 mod HandReady

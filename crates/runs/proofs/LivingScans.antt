@@ -86,7 +86,7 @@ module _ (s : State) (lent : ℕ) where
   ds = dims_of s.shape
 
   pub passed_within : passed (state_view s lent) ≤ total_chunks ds
-  passed_within = omega (arith, s.passes, s.within)
+  passed_within = omega (arith, s.passes, s.controls.within)
 
   abbrev released_now : ℕ
   released_now = released_after ds (passed (state_view s lent))
@@ -95,7 +95,7 @@ module _ (s : State) (lent : ℕ) where
   same_released = ap (released_after ds) s.passes ∙ released_is ds s.control.passed
 
   pub handed_within : s.control.handed ≤ released_now
-  handed_within = subst (λ n. s.control.handed ≤ n) (sym same_released) s.until
+  handed_within = subst (λ n. s.control.handed ≤ n) (sym same_released) s.controls.until
 
   -- a block that waits is one of the handing order
   pub waiting_among : s.control.handed < released_now → s.control.handed < length (handing_order ds)

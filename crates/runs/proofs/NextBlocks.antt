@@ -8,7 +8,7 @@ use Rattle.cubes.specs.Handing.{handing, named}
 use Rattle.cubes.specs.Scans.{scan_digits}
 use Rattle.runs.specs.declared.state.State.{State}
 use Rattle.runs.specs.declared.refusals.RunRefusal.TheVariants.{NoBlock, ShortBuffer}
-use Rattle.runs.specs.Trees.{HasBlock, NumberOf}
+use Rattle.runs.specs.Trees.{NumberOf}
 use Rattle.runs.specs.Controls.{NextAt, handed_at}
 use Rattle.runs.specs.Planned.{places_of, adds_of, released_after, none_block, block_after, block_size}
 use Rattle.runs.specs.Answers.{waits, too_few, hand_name, hand_answer}
@@ -25,7 +25,7 @@ after_is ds i = ap (λ bs. get_or bs i none_block) (sym (handing_is ds))
 
 module _ (s : State) (m : ℕ) (e : s.control.next ≡ Some m) (at : List ℕ) (is : NextAt s.control m at) where
   next_coordinates : List ℕ
-  next_coordinates = scan_digits (places_of (ds s)) (radix (group (length (ds s)) m) (counts (ds s))) (handed_at s.control.table m)
+  next_coordinates = scan_digits (places_of (ds s)) (radix (group (length (ds s)) m) (counts (ds s))) (handed_at s.control.counts m)
 
   coordinates_below : Below (radix (group (length (ds s)) m) (counts (ds s))) next_coordinates
   unfolding next_coordinates
@@ -34,17 +34,6 @@ module _ (s : State) (m : ℕ) (e : s.control.next ≡ Some m) (at : List ℕ) (
   coordinates_filled : at ≡ six 0 next_coordinates
   unfolding next_coordinates
   coordinates_filled = next_filled (ds s) (places_of (ds s)) (adds_of (ds s)) s.control (controls_in s) m e at (is (ds s) (places_of (ds s)) (adds_of (ds s)) (controls_in s))
-
-  pub has_next : HasBlock s.control.tree m at
-  has_next = record {
-    dims = ds s;
-    place = places_of (ds s);
-    adds = adds_of (ds s);
-    grown = grown_in s;
-    coordinates = next_coordinates;
-    below = coordinates_below;
-    filled = coordinates_filled;
-  }
 
   group_is : (block_after (ds s) s.control.handed).of ≡ group (length (ds s)) m
   group_is = ap (λ x. x.of) (sym (after_is (ds s) s.control.handed)) ∙ (is (ds s) (places_of (ds s)) (adds_of (ds s)) (controls_in s) none_block).0
@@ -75,11 +64,11 @@ module _ (s : State) (lent room : ℕ) (enough : too_few (state_view s lent) ≡
 
   pub none_next : s.control.next ≡ None → hand_answer (state_view s lent) room ≡ Err NoBlock
   none_next e = cond-false (too_few (state_view s lent)) _ _ enough
-      ∙ cond-false (waits (state_view s lent)) _ _ (le-ltb s.control.handed (released_after (ds s) (s.taken + s.skipped)) (omega (arith, s.idle e, freed_is s)))
+      ∙ cond-false (waits (state_view s lent)) _ _ (le-ltb s.control.handed (released_after (ds s) (s.taken + s.skipped)) (omega (arith, s.controls.idle e, freed_is s)))
 
   module _ (m : ℕ) (e : s.control.next ≡ Some m) (x : ℕ × ℕ × ℕ) (is : x ≡ hand_name (ds s) (block_after (ds s) s.control.handed)) where
     waits_now : waits (state_view s lent) ≡ true
-    waits_now = lt-ltb s.control.handed (released_after (ds s) (s.taken + s.skipped)) (omega (arith, s.next_waits m e, freed_is s))
+    waits_now = lt-ltb s.control.handed (released_after (ds s) (s.taken + s.skipped)) (omega (arith, s.controls.next_waits m e, freed_is s))
 
     pub too_short : room < x.2 → hand_answer (state_view s lent) room ≡ Err (ShortBuffer x.2)
     too_short l = cond-false (too_few (state_view s lent)) _ _ enough ∙ (cond-true (waits (state_view s lent)) _ _ waits_now

@@ -1,12 +1,12 @@
 -- From six dimensions to those that are there: where the cells of a block stand.
-use Rattle.std.proofs.Common.{◌≡◌, ℕ, zero, suc, ◌+◌, ◌-◌, ◌*◌, ◌/◌, ◌%◌, ◌^◌, ◌<◌, ◌≤◌, Bool, true, false, cond, eqb, ltb, ◌⊎◌, List, [], ◌∷◌, ◌++◌, length, get_or, take, replicate, sym, refl, ap, ◌∙◌, ap₂, inl, inr, add-zero, mul-zero, zero-add, mul-one, add-one, arith}
+use Rattle.std.proofs.Common.{◌≡◌, ℕ, zero, suc, ◌+◌, ◌-◌, ◌*◌, ◌/◌, ◌%◌, ◌^◌, ◌<◌, ◌≤◌, true, false, cond, eqb, ltb, ◌⊎◌, List, [], ◌∷◌, ◌++◌, length, get_or, take, replicate, sym, refl, ap, ◌∙◌, ap₂, inl, inr, add-zero, mul-zero, zero-add, mul-one, add-one, arith}
 use Rattle.std.proofs.lemmas.Nat.{div_below, pow-add}
-use Rattle.std.proofs.lemmas.List.{get_or_append_left, get_or-append_right, get_or-replicate, get_or_past, get_or-map, length-map, length-replicate, length-append, ext_get_or}
+use Rattle.std.proofs.lemmas.List.{get_or_append_left, get_or-append_right, get_or-replicate, get_or_past, length-map, length-replicate, length-append, ext_get_or}
 use Rattle.std.proofs.lemmas.List.FromFn.{get_or-map-range_with_len, length-map-range_with_len}
 use Rattle.std.proofs.lemmas.Bool.{cases_lt}
 use Rattle.shapes.specs.declared.dims.Dim.{Dim}
-use Rattle.shapes.specs.Arrays.{Group, product, digits, group, radix, Below, edges, dim, none_dim, keeps, cell_at}
-use Rattle.shapes.specs.Views.{six}
+use Rattle.shapes.specs.Arrays.{Group, product, digits, group, radix, Below, edges, dim, keeps, cell_at}
+use Rattle.shapes.specs.Views.{dims_of, six}
 use Rattle.shapes.proofs.Products.{product_ones}
 use Rattle.shapes.proofs.Sixes.{length-six, six_at}
 use Rattle.cubes.specs.Summaries.{Divided, big}
@@ -15,9 +15,9 @@ use Rattle.cubes.proofs.ScanNumbers.{sums, products}
 use Rattle.runs.specs.declared.layouts.Layout.{Layout}
 use Rattle.runs.specs.declared.layouts.Region.{Region}
 use Rattle.runs.specs.Boxes.{dot}
-use Rattle.runs.specs.Layouts.{region_radix, region_radices, region_digit, cell_number, region_stride, block_digit}
-use Rattle.runs.specs.Grids.{radix_at, cells_in, stride_at, strides_in, first_at, start_of, digit_at, index_of, block_edges, LaidOut, RegionOf}
-use Rattle.runs.proofs.CellNumbers.{dot_sum, cell_number_sum, cell_number_strides}
+use Rattle.runs.specs.Layouts.{region_radix, region_radices, cell_number, region_stride, block_digit}
+use Rattle.runs.specs.Grids.{radix_at, cells_in, stride_at, strides_in, first_at, start_of, block_edges, LaidOut, RegionOf}
+use Rattle.runs.proofs.CellNumbers.{dot_sum, cell_number_strides}
 use Rattle.cubes.proofs.RegionCells.{product_counting}
 
 -- a list filled up to six
@@ -86,8 +86,8 @@ module _ (ds : List Dim) (place : ℕ → ℕ) (y : Layout) (laid : LaidOut ds p
   kept_are : r.kept ≡ g ++ replicate (6 - length ds) false
   kept_are = of.keeping ∙ six_padded false g (length ds) lg laid.few
 
-  edges_are : y.edges ≡ edges ds ++ replicate (6 - length ds) 1
-  edges_are = laid.edged ∙ six_padded 1 (edges ds) (length ds) (length-map ds (λ (d : Dim). d.edge)) laid.few
+  edges_are : six 1 (edges (dims_of y.shape)) ≡ edges ds ++ replicate (6 - length ds) 1
+  edges_are = ap (λ es. six 1 (edges es)) laid.shaped ∙ six_padded 1 (edges ds) (length ds) (length-map ds (λ (d : Dim). d.edge)) laid.few
 
   kept_in : (i : ℕ) → i < length ds → get_or r.kept i false ≡ keeps g i
   kept_in i l = ap (λ z. get_or z i false) kept_are ∙ get_or_append_left g (replicate (6 - length ds) false) false i (rw lg l)
@@ -95,16 +95,19 @@ module _ (ds : List Dim) (place : ℕ → ℕ) (y : Layout) (laid : LaidOut ds p
   kept_out : (i : ℕ) → length ds ≤ i → i < 6 → get_or r.kept i false ≡ false
   kept_out i l m = ap (λ z. get_or z i false) kept_are ∙ get_or-append_right g (replicate (6 - length ds) false) (length ds) i false lg l ∙ get_or-replicate (6 - length ds) (i - length ds) false false (omega arith)
 
-  edge_in : (i : ℕ) → i < length ds → get_or y.edges i 0 ≡ (dim ds i).edge
-  edge_in i l = ap (λ z. get_or z i 0) edges_are ∙ get_or_append_left (edges ds) (replicate (6 - length ds) 1) 0 i (rw (length-map ds (λ (d : Dim). d.edge)) l) ∙ get_or-map (λ (d : Dim). d.edge) ds i none_dim 0 l
+  size_in : (i : ℕ) → (dim (dims_of y.shape) i).size ≡ (dim ds i).size
+  size_in i = ap (λ es. (dim es i).size) laid.shaped
+
+  edge_in : (i : ℕ) → (dim (dims_of y.shape) i).edge ≡ (dim ds i).edge
+  edge_in i = ap (λ es. (dim es i).edge) laid.shaped
 
   radix_in : (i : ℕ) → i < length ds → radix_at y r i ≡ region_radix ds place g p i
   radix_in i l =
-      ap (λ z. cond z (cond (ltb (get_or y.places i 0) r.lacked) (get_or y.sizes i 0) (get_or y.edges i 0)) 1) (kept_in i l)
-      ∙ ap (λ z. cond (keeps g i) z 1) (ap₂ (λ a b. cond (ltb a b) (get_or y.sizes i 0) (get_or y.edges i 0)) (laid.placed i l) of.lacking ∙ ap₂ (cond (ltb (place i) p)) (laid.sized i l) (edge_in i l))
+      ap (λ z. cond z (cond (ltb (get_or y.places i 0) r.lacked) (dim (dims_of y.shape) i).size (dim (dims_of y.shape) i).edge) 1) (kept_in i l)
+      ∙ ap (λ z. cond (keeps g i) z 1) (ap₂ (λ a b. cond (ltb a b) (dim (dims_of y.shape) i).size (dim (dims_of y.shape) i).edge) (laid.placed i l) of.lacking ∙ ap₂ (cond (ltb (place i) p)) (size_in i) (edge_in i))
 
   pub radix_out : (i : ℕ) → length ds ≤ i → i < 6 → radix_at y r i ≡ 1
-  radix_out i l m = ap (λ z. cond z (cond (ltb (get_or y.places i 0) r.lacked) (get_or y.sizes i 0) (get_or y.edges i 0)) 1) (kept_out i l m)
+  radix_out i l m = ap (λ z. cond z (cond (ltb (get_or y.places i 0) r.lacked) (dim (dims_of y.shape) i).size (dim (dims_of y.shape) i).edge) 1) (kept_out i l m)
 
   pub cells_before_in : (i : ℕ) → i ≤ length ds → big 1 ◌*◌ (radix_at y r) i ≡ big 1 ◌*◌ (region_radix ds place g p) i
   cells_before_in i l = big_cong 1 ◌*◌ products (radix_at y r) (region_radix ds place g p) i (λ j m. radix_in j (omega arith))
@@ -130,8 +133,8 @@ module _ (ds : List Dim) (place : ℕ → ℕ) (y : Layout) (laid : LaidOut ds p
     block_is = padded ∙ six_padded 0 c (length ds) lc laid.few
 
     first_in : (i : ℕ) → i < length ds → first_at y r c6 i ≡ block_digit ds place p c i
-    first_in i l = ap₂ (λ a b. cond (ltb a b) (get_or c6 i 0 * get_or y.edges i 0) 0) (laid.placed i l) of.lacking
-        ∙ ap₂ (λ a b. cond (ltb (place i) p) (a * b) 0) (ap (λ z. get_or z i 0) block_is ∙ get_or_append_left c (replicate (6 - length ds) 0) 0 i (rw lc l)) (edge_in i l)
+    first_in i l = ap₂ (λ a b. cond (ltb a b) (get_or c6 i 0 * (dim (dims_of y.shape) i).edge) 0) (laid.placed i l) of.lacking
+        ∙ ap₂ (λ a b. cond (ltb (place i) p) (a * b) 0) (ap (λ z. get_or z i 0) block_is ∙ get_or_append_left c (replicate (6 - length ds) 0) 0 i (rw lc l)) (edge_in i)
 
     pub start_is : start_of y r c6 ≡ base + big 0 ◌+◌ (λ i. block_digit ds place p c i * region_stride ds place g p i) (length ds)
     start_is = ap₂ ◌+◌ of.first
@@ -143,23 +146,7 @@ module _ (ds : List Dim) (place : ℕ → ℕ) (y : Layout) (laid : LaidOut ds p
         → start_of y r c6 + dot (strides_in y r) (ls ++ replicate (6 - length ds) 0) ≡ base + cell_number ds place g p (cell_at ds c ls)
     block_cell_at divided ls ll small = omega (arith, start_is, strides_dot ls ll, cell_number_strides ds place divided g p c ls lc ll small)
 
-  -- the index of a cell, and how many cells the region has
-  pub index_is : (divided : Divided ds) (x x6 : List ℕ) → length x ≡ length ds → x6 ≡ six 0 x → index_of y r x6 ≡ base + cell_number ds place g p x
-  index_is divided x x6 lx padded = ap₂ ◌+◌ of.first
-      (sum_rest (λ i. digit_at y r x6 i * stride_at y r i) (length ds) 6 laid.few (λ i l m. ap (λ z. digit_at y r x6 i * z) (stride_out i l m) ∙ mul-zero (digit_at y r x6 i))
-      ∙ big_cong 0 ◌+◌ sums (λ i. digit_at y r x6 i * stride_at y r i) (λ i. region_digit ds place g p x i * big 1 ◌*◌ (region_radix ds place g p) i) (length ds) (λ i l. ap₂ ◌*◌ (digit_in i l) (stride_in i l) ∙ kept_only (keeps g i) (cond (ltb (place i) p) (get_or x i 0) (get_or x i 0 % (dim ds i).edge)) (big 1 ◌*◌ (region_radix ds place g p) i))
-      ∙ sym (cell_number_sum ds place divided g p x))
-    where
-      digit_in : (i : ℕ) → i < length ds → digit_at y r x6 i ≡ region_digit ds place g p x i
-      digit_in i l =
-          ap (λ z. cond z (cond (ltb (get_or y.places i 0) r.lacked) (get_or x6 i 0) (get_or x6 i 0 % get_or y.edges i 0)) 0) (kept_in i l)
-          ∙ ap (λ z. cond (keeps g i) z 0) (ap₂ (λ a b. cond (ltb a b) (get_or x6 i 0) (get_or x6 i 0 % get_or y.edges i 0)) (laid.placed i l) of.lacking
-          ∙ ap₂ (λ a b. cond (ltb (place i) p) a (a % b)) (ap (λ z. get_or z i 0) (padded ∙ six_padded 0 x (length ds) lx laid.few) ∙ get_or_append_left x (replicate (6 - length ds) 0) 0 i (rw lx l)) (edge_in i l))
-
-      kept_only : (b : Bool) (d w : ℕ) → cond b d 0 * cond b w 0 ≡ cond b d 0 * w
-      kept_only true d w = refl
-      kept_only false d w = omega arith
-
+  -- how many cells the region has
   cells_before_out : (m : ℕ) → length ds + m ≤ 6 → big 1 ◌*◌ (radix_at y r) (length ds + m) ≡ big 1 ◌*◌ (radix_at y r) (length ds)
   cells_before_out zero q = ap (big 1 ◌*◌ (radix_at y r)) (add-zero (length ds))
   cells_before_out (suc m) q = ap (big 1 ◌*◌ (radix_at y r)) (more (length ds) m) ∙ ap₂ ◌*◌ (cells_before_out m (omega arith)) (radix_out (length ds + m) (omega arith) (omega arith)) ∙ mul-one (big 1 ◌*◌ (radix_at y r) (length ds))

@@ -14,10 +14,11 @@ use Rattle.plans.specs.Plans.{Order, Parents, Lacks, Least, plan_place, plan_add
 use Rattle.plans.specs.Views.{place_in, Planned}
 use Rattle.cubes.specs.Handing.{parent}
 use Rattle.cubes.specs.Scans.{width}
-use Rattle.cubes.proofs.Cells.{length-radix}
+use Rattle.shapes.proofs.Radixes.{length-radix}
 use Rattle.runs.specs.declared.tree.Tree.{Tree}
 use Rattle.runs.specs.Trees.{Grown, adds_in}
-use Rattle.runs.proofs.Growing.{lacked, table_adds, width_alike}
+use Rattle.runs.proofs.Growing.{lacked, table_adds}
+use Rattle.runs.proofs.SixRadices.{width_alike}
 use Rattle.plans.proofs.Sums.{all_counting}
 
 -- only the places of the dimensions and the dimensions added to the groups matter
@@ -51,7 +52,6 @@ module _ (ds : List Dim) (p q : ℕ → ℕ) (a b : Group → ℕ) (tr : Tree) (
     chunks = g.chunks;
     places = λ i l. g.places i l ∙ same_place i l;
     added = λ m l. g.added m l ∙ same_adds m l;
-    all_nodes = g.all_nodes;
     ups = λ m l. g.ups m l ∙ ap (λ e. m + 2 ^ e) (same_adds m l);
     periods = λ m l. g.periods m l
         ∙ (width_moves (parent a (group (length ds) m)) m (length-set (group (length ds) m) (a (group (length ds) m)) true ∙ length-group (length ds) m) l

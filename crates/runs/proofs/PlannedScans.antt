@@ -1,10 +1,10 @@
 -- The plan's order and parents make a scan of all groups.
-use Rattle.std.proofs.Common.{◌≡◌, ℕ, ◌^◌, ◌≤◌, List, length, refl, mul-le-mul_right, arith, pow_mono}
+use Rattle.std.proofs.Common.{◌≡◌, ℕ, List, length, refl}
 use Rattle.shapes.specs.declared.dims.Dim.{Dim}
-use Rattle.shapes.specs.Arrays.{extent, groups}
+use Rattle.shapes.specs.Arrays.{groups}
 use Rattle.shapes.specs.Limits.{Limits}
 use Rattle.plans.specs.Plans.{Order, Parents, Least, need}
-use Rattle.plans.proofs.LeastNeed.{least_need, need_bounded}
+use Rattle.plans.proofs.LeastNeed.{least_need}
 use Rattle.cubes.specs.Handing.{Scan, handing, released}
 use Rattle.cubes.proofs.Groups.{limits_edged, lattice_scan}
 use Rattle.runs.specs.Planned.{places_of, adds_of, need_of, handing_order, released_after}
@@ -23,12 +23,6 @@ module _ (ds : List Dim) (limits : Limits ds) where
 
   pub planned_scan : Scan ds (places_of ds) (adds_of ds) (groups (length ds))
   planned_scan = lattice_scan ds (places_of ds) (adds_of ds) (limits_edged ds limits) order_is parents_are
-
-  pub need_small : need_of ds ≤ 2 ^ 40
-  unfolding need_of places_of adds_of
-  need_small =
-      let few : 2 ^ length ds ≤ 2 ^ 6 = pow_mono limits.few_dims in
-      omega (arith, need_bounded ds (limits_edged ds limits) (places_of ds) (adds_of ds), mul-le-mul_right (extent ds) few, limits.small_array)
 
 pub need_is : (ds : List Dim) → need_of ds ≡ need ds (places_of ds) (adds_of ds)
 unfolding need_of places_of adds_of

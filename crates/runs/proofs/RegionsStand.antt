@@ -9,14 +9,14 @@ use Rattle.runs.specs.Planned.{places_of, adds_of, need_of}
 use Rattle.runs.specs.Holdings.{region_start, region_size, cell_place, root_mask}
 use Rattle.runs.proofs.RegionBases.{region_within, regions_apart, root_base}
 use Rattle.runs.proofs.PlannedScans.{need_is}
-use Rattle.runs.proofs.FromState.{top_is}
+use Rattle.runs.proofs.FromState.{top_is, starts_in}
 
 module _ (s : State) where
   abbrev ds : List Dim
   ds = dims_of s.shape
 
   pub start_is : (k : ℕ) → k < 2 ^ length ds → region_start s k ≡ mask_base ds (places_of ds) (adds_of ds) k
-  start_is k l = s.starts k l
+  start_is k l = starts_in s k l
 
   pub place_is : (k : ℕ) (x : List ℕ) → k < 2 ^ length ds → cell_place s k x ≡ standing ds (places_of ds) (adds_of ds) k x
   place_is k x l = ap (λ z. z + cell_number ds (places_of ds) (group (length ds) k) (lacked_place ds (places_of ds) (adds_of ds) k) x) (start_is k l)

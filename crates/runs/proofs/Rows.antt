@@ -1,9 +1,10 @@
 -- A box cut into rows along a dimension before which every radix is 1.
-use Rattle.std.proofs.Common.{◌≡◌, ℕ, zero, suc, ◌+◌, ◌*◌, ◌/◌, ◌%◌, ◌<◌, ◌≤◌, List, [], ◌∷◌, ◌++◌, length, get_or, take, drop, set, sym, ap, ◌∙◌, ap₂, add-zero, mul-le-mul_right, mul_comm, zero-add, div-one, arith}
+use Rattle.std.proofs.Common.{◌≡◌, ℕ, zero, suc, ◌+◌, ◌*◌, ◌/◌, ◌%◌, ◌<◌, ◌≤◌, List, [], ◌∷◌, ◌++◌, length, get_or, take, drop, set, sym, ap, ◌∙◌, subst, ap₂, add-zero, mul-le-mul_right, mul_comm, zero-add, div-one, arith}
 use lib.Arith.{digits_div, digits_mod}
 use lib.Seq.{paste}
 use Rattle.std.proofs.lemmas.List.{ext_get_or, take_all, length-take-le, get_or-take, get_or-drop, length-drop, drop-drop, take_at, drop_at, take-take, drop-take, take-append-drop}
 use Rattle.std.proofs.lemmas.List.FromFn.{length-map-range_with_len, get_or-map-range_with_len}
+use Rattle.shapes.specs.declared.radices.Radices.{Radices}
 use Rattle.shapes.specs.Arrays.{product, digits, Below}
 use Rattle.shapes.proofs.Numbering.{length_by_digits, getD_by_digits}
 use Rattle.runs.specs.Boxes.{dot, box_cells, row_cells, RowWithin, Within, Positive, Leads}
@@ -12,7 +13,7 @@ use Rattle.runs.proofs.Digits.{digits_positive}
 leads_on : (k : ℕ) (ks : List ℕ) (r : ℕ) → Leads (k ∷ ks) (suc r) → Leads ks r
 leads_on k ks r lead = (omega (arith, lead.0), λ i l. lead.1 (suc i) (omega arith))
 
-product_rows : (ks : List ℕ) (r : ℕ) → r < length ks → product ks ≡ product (set ks r 1) * get_or ks r 0
+pub product_rows : (ks : List ℕ) (r : ℕ) → r < length ks → product ks ≡ product (set ks r 1) * get_or ks r 0
 product_rows [] r l = absurd (omega arith)
 product_rows (k ∷ ks) zero l = omega (arith, mul_comm k (product ks))
 product_rows (k ∷ ks) (suc r) l = ap (λ z. k * z) (product_rows ks r (omega arith)) ∙ regroup k (product (set ks r 1)) (get_or ks r 0)
@@ -25,23 +26,25 @@ positive_at [] i pos l = absurd (omega arith)
 positive_at (k ∷ ks) zero pos l = pos.0
 positive_at (k ∷ ks) (suc i) pos l = positive_at ks i pos.1 (omega arith)
 
+pub positive_each : (ks : List ℕ) → ((i : ℕ) → i < length ks → 1 ≤ get_or ks i 0) → Positive ks
+positive_each [] some = tt
+positive_each (k ∷ ks) some = (some 0 (omega arith), positive_each ks (λ i l. some (suc i) (omega arith)))
+
+pub group_positive : (e : Radices) (ks : List ℕ) → e.each ≡ ks → Positive ks
+group_positive e ks is = subst Positive is (positive_each e.each (λ i l. e.some i (omega (arith, e.six))))
+
+pub edges_positive : (e : Radices) → Positive e.each
+edges_positive e = positive_each e.each (λ i l. e.some i (omega (arith, e.six)))
+
 -- how many rows there are
-pub rows_count : (ks : List ℕ) (r count : ℕ) → r < length ks → Positive ks → count ≡ product ks
-    → (count / get_or ks r 0 ≡ product (set ks r 1)) × (count ≡ product (set ks r 1) * get_or ks r 0)
-rows_count ks r count l pos e = (
-  ap (λ z. z / get_or ks r 0) (whole ∙ sym (add-zero (product (set ks r 1) * get_or ks r 0))) ∙ digits_div (product (set ks r 1)) (positive_at ks r pos l),
-  whole,
-)
-  where
-    whole : count ≡ product (set ks r 1) * get_or ks r 0
-    whole = e ∙ product_rows ks r l
+pub rows_count : (ks : List ℕ) (r count : ℕ) → r < length ks → Positive ks → count ≡ product ks → count / get_or ks r 0 ≡ product (set ks r 1)
+rows_count ks r count l pos e = ap (λ z. z / get_or ks r 0) (e ∙ product_rows ks r l ∙ sym (add-zero (product (set ks r 1) * get_or ks r 0))) ∙ digits_div (product (set ks r 1)) (positive_at ks r pos l)
 
 -- every row ends within the box
-pub row_room : (ks : List ℕ) (r count t : ℕ) → r < length ks → Positive ks → count ≡ product ks → t < count / get_or ks r 0 → t * get_or ks r 0 + get_or ks r 0 ≤ product ks
-row_room ks r count t l pos e m =
-    let n = rows_count ks r count l pos e in
-    let le : t + 1 ≤ product (set ks r 1) = omega (arith, n.0) in
-    omega (arith, n.1, mul-le-mul_right (get_or ks r 0) le, one (get_or ks r 0))
+pub row_room : (ks : List ℕ) (r t : ℕ) → r < length ks → t < product (set ks r 1) → t * get_or ks r 0 + get_or ks r 0 ≤ product ks
+row_room ks r t l m =
+    let le : t + 1 ≤ product (set ks r 1) = omega arith in
+    omega (arith, product_rows ks r l, mul-le-mul_right (get_or ks r 0) le, one (get_or ks r 0))
   where
     one : (k : ℕ) → (t + 1) * k ≡ t * k + k
     one k = omega arith

@@ -14,7 +14,7 @@ use Rattle.runs.specs.Answers.{passed}
 use Rattle.runs.specs.Holdings.{Moment, moment_of, dims_in, view, first_emptied, planned_emptied, Represents}
 use Rattle.runs.specs.Calls.{Makes}
 use Rattle.runs.specs.Steps.{Begins}
-use Rattle.runs.proofs.FromState.{divided_in}
+use Rattle.runs.proofs.FromState.{divided_in, needs}
 use Rattle.runs.proofs.Holding.{Holds, represents_of}
 use Rattle.runs.proofs.ChunkPassed.{holds_start}
 
@@ -27,7 +27,7 @@ emptied_length empty n xs = by (cases_lt (length xs) n)
         ∙ length-append (replicate n empty) (drop n xs) ∙ omega (arith, length-replicate n empty, length-drop n xs)
 
 module _ {M : Type 0} (empty : M) (op : M → M → M) (lawful : Lawful empty op) (shape : Shape) (xs ys : List M) (s : State) (begins : Begins shape s)
-    (cells : ys ≡ first_emptied empty s.need xs) where
+    (cells : ys ≡ first_emptied empty s.plan.need xs) where
   abbrev m : Moment M
   m = moment_of s ys
 
@@ -35,10 +35,10 @@ module _ {M : Type 0} (empty : M) (op : M → M → M) (lawful : Lawful empty op
   dims_is = ap dims_of begins.shaped
 
   emptied_is : ys ≡ planned_emptied empty (dims_of shape) xs
-  emptied_is = cells ∙ ap (λ n. first_emptied empty n xs) (s.needs ∙ ap need_of dims_is)
+  emptied_is = cells ∙ ap (λ n. first_emptied empty n xs) (needs s ∙ ap need_of dims_is)
 
   long : length ys ≡ length xs
-  long = ap length cells ∙ emptied_length empty s.need xs
+  long = ap length cells ∙ emptied_length empty s.plan.need xs
 
   none_passed : passed (view m) ≡ 0
   none_passed = omega (arith, begins.none_taken, begins.none_skipped)

@@ -1,5 +1,6 @@
 -- What a run's state answers, from what its control says.
-use Rattle.std.proofs.Common.{◌≡◌, ℕ, ◌+◌, ◌-◌, ◌^◌, ◌<◌, Bool, true, false, cond, not, eqb, ltb, List, length, Ok, Err, sym, refl, ap, ◌∙◌, arith}
+use Rattle.std.specs.Prelude.{MatchOption, MatchResult}
+use Rattle.std.proofs.Common.{get_or, Some, None, Option, Result, [], ◌∷◌, ◌≡◌, ℕ, ◌+◌, ◌^◌, ◌<◌, Bool, true, false, cond, not, eqb, ltb, List, length, Ok, Err, sym, refl, ap, ◌∙◌, arith}
 use Rattle.std.proofs.lemmas.Bool.{cond-true, cond-false, eq-eqb, ne_eqb}
 use Rattle.std.proofs.lemmas.Bool.Decides.{same_from_decides, Decides-eqb, Decides-ltb, Decides-not, Decides-and, Decides-like}
 use Rattle.shapes.specs.declared.dims.Dim.{Dim}
@@ -12,15 +13,18 @@ use Rattle.cubes.specs.Scans.{scan_digits}
 use Rattle.cubes.proofs.Groups.{limits_edged, root_of}
 use Rattle.cubes.proofs.Naming.{block_within}
 use Rattle.cubes.proofs.Trees.{radix_root_counts}
+use Rattle.shapes.specs.Limits.{Refusal, refused_if}
+use Rattle.plans.specs.declared.refusals.TooFewCells.{TooFewCells}
+use Rattle.plans.specs.Refusals.{check_fault, too_few as too_few_refusal}
 use Rattle.runs.specs.declared.state.State.{State}
 use Rattle.runs.specs.Controls.{WaitsExactly, DoneExactly}
-use Rattle.runs.specs.Trees.{HasBlock, CoordinatesOf, NumberOf}
-use Rattle.runs.specs.Planned.{places_of, adds_of, released_after, scanned_chunk, scanned_storage}
+use Rattle.runs.specs.Trees.{CoordinatesOf, NumberOf}
+use Rattle.runs.specs.Planned.{places_of, adds_of, need_of, released_after, scanned_chunk, scanned_storage}
 use Rattle.runs.specs.declared.refusals.RunRefusal.TheVariants.{BlockWaits, AllPassed, OtherShape}
 use Rattle.runs.specs.Answers.{waits, done, too_few, next_chunk}
 use Rattle.runs.specs.Holdings.{state_view}
 use Rattle.runs.proofs.PlannedScans.{released_is}
-use Rattle.runs.proofs.FromState.{ds, controls_in, grown_in}
+use Rattle.runs.proofs.FromState.{ds, controls_in, grown_in, needs}
 
 module _ (s : State) where
   -- how many blocks the chunks passed release
@@ -40,7 +44,7 @@ module _ (s : State) where
       (Decides-like (not (waits (state_view s lent))) all_handed still (Decides-not (waits (state_view s lent)) (Decides-ltb s.control.handed (released_after (ds s) (s.taken + s.skipped))))))
     where
       all_handed : (s.control.handed < released_after (ds s) (s.taken + s.skipped) → ⊥) → s.control.handed ≡ freed
-      all_handed no_more = omega (arith, s.until, freed_is, no_more)
+      all_handed no_more = omega (arith, s.controls.until, freed_is, no_more)
 
       still : s.control.handed ≡ freed → s.control.handed < released_after (ds s) (s.taken + s.skipped) → ⊥
       still e l = omega (arith, freed_is)
@@ -60,24 +64,24 @@ module _ (s : State) (m : ℕ) (is_root : m + 1 ≡ 2 ^ length (ds s)) (at : Lis
   chunk_filled : at ≡ six 0 chunk_at
   chunk_filled = is (ds s) (places_of (ds s)) (adds_of (ds s)) (grown_in s)
 
-  pub has_chunk : HasBlock s.control.tree m at
-  has_chunk = record {
-    dims = ds s;
-    place = places_of (ds s);
-    adds = adds_of (ds s);
-    grown = grown_in s;
-    coordinates = chunk_at;
-    below = chunk_below;
-    filled = chunk_filled;
-  }
-
   pub storage_is : (r : ℕ) → NumberOf s.control.tree m at r → r ≡ scanned_storage (ds s) (s.taken + s.skipped)
   storage_is r numbered = numbered (ds s) (places_of (ds s)) (adds_of (ds s)) (grown_in s) chunk_at chunk_below chunk_filled
       ∙ (scanned_is (ds s) m s.control.passed is_root ∙ ap (scanned_storage (ds s)) (sym s.passes))
 
--- the root's mask, from how many groups n dimensions have
-pub root_mask_is : (n m r : ℕ) → n ≡ m → r ≡ 2 ^ n → 0 < r → r - 1 + 1 ≡ 2 ^ m
-root_mask_is n m r same e some = omega (arith, ap (λ k. 2 ^ k) same)
+-- whether enough cells were lent, by the plan
+fewer : (b : Bool) (x : Refusal) (o : Option Refusal) → refused_if b x ≡ o → MatchOption o (b ≡ false) (λ y. (b ≡ true) × (x ≡ y))
+fewer true x None e = cc
+fewer true x (Some y) e = (refl, cc)
+fewer false x None e = refl
+fewer false x (Some y) e = absurd cc
+
+pub lent_is : (s : State) (lent : ℕ) (r : Result (Unit {0}) TooFewCells)
+    → MatchResult r (λ _. check_fault lent s.plan.need ≡ None) (λ e. check_fault lent s.plan.need ≡ Some (too_few_refusal e))
+    → MatchResult r (λ _. too_few (state_view s lent) ≡ false) (λ e. (too_few (state_view s lent) ≡ true) × (e.need ≡ need_of (ds s)))
+lent_is s lent (Ok x) e = ap (ltb lent) (sym (needs s)) ∙ fewer (ltb lent s.plan.need) (17, s.plan.need ∷ []) None e
+lent_is s lent (Err f) e =
+    let it = fewer (ltb lent s.plan.need) (17, s.plan.need ∷ []) (Some (too_few_refusal f)) e in
+    (ap (ltb lent) (sym (needs s)) ∙ it.0, sym (ap (λ (x : Refusal). get_or x.1 0 0) it.1) ∙ needs s)
 
 -- as two shapes are, by !=
 pub compared : (x r b : Bool) → r ≡ not x → r ≡ b → x ≡ not b
@@ -98,12 +102,12 @@ module _ (s : State) (lent : ℕ) (other : Shape) (enough : too_few (state_view 
 
     pub all_were_passed : s.control.passed ≡ s.control.tree.total → Err AllPassed ≡ next_chunk (state_view s lent) (dims_of other)
     all_were_passed e = sym (cond-false (too_few (state_view s lent)) _ _ enough ∙ (cond-false (waits (state_view s lent)) _ _ idle
-        ∙ cond-true all_passed _ _ (eq-eqb (s.taken + s.skipped) (total_chunks (ds s)) (s.passes ∙ (e ∙ s.total)))))
+        ∙ cond-true all_passed _ _ (eq-eqb (s.taken + s.skipped) (total_chunks (ds s)) (s.passes ∙ (e ∙ s.controls.grown.total)))))
 
     module _ (left : s.control.passed ≡ s.control.tree.total → ⊥) where
       chunk_left : next_chunk (state_view s lent) (dims_of other) ≡ cond (same_dims (ds s) (dims_of other)) (Ok (scanned_storage (ds s) (s.taken + s.skipped))) (Err OtherShape)
       chunk_left = cond-false (too_few (state_view s lent)) _ _ enough ∙ (cond-false (waits (state_view s lent)) _ _ idle
-          ∙ cond-false all_passed _ _ (ne_eqb (s.taken + s.skipped) (total_chunks (ds s)) (λ e. left (sym s.passes ∙ (e ∙ sym s.total)))))
+          ∙ cond-false all_passed _ _ (ne_eqb (s.taken + s.skipped) (total_chunks (ds s)) (λ e. left (sym s.passes ∙ (e ∙ sym s.controls.grown.total)))))
 
       pub other_shape : same_dims (ds s) (dims_of other) ≡ false → Err OtherShape ≡ next_chunk (state_view s lent) (dims_of other)
       other_shape d = sym (chunk_left ∙ cond-false (same_dims (ds s) (dims_of other)) _ _ d)

@@ -1,11 +1,11 @@
 -- The control of a run, from step to step.
-use Rattle.std.proofs.Common.{◌≡◌, ℕ, suc, ◌+◌, ◌-◌, ◌*◌, ◌^◌, ◌<◌, ◌≤◌, Bool, true, false, not, ◌&&◌, eqb, ltb, ◌⊎◌, ◌↔◌, List, [], ◌∷◌, ◌++◌, length, get_or, set, Some, None, Option, sym, refl, ap, ◌∙◌, subst, inl, inr, ⊎_elim, arith, pow_mono}
+use Rattle.std.proofs.Common.{◌≡◌, ℕ, suc, ◌+◌, ◌-◌, ◌*◌, ◌^◌, ◌<◌, ◌≤◌, Bool, true, false, not, eqb, ltb, ◌↔◌, List, [], ◌∷◌, ◌++◌, length, get_or, set, Some, None, Option, sym, refl, ap, ◌∙◌, subst, ⊎_elim, arith, pow_mono}
 use native.Mathlib.Nat.{pow-succ'}
-use Rattle.std.proofs.lemmas.Nat.{mul-le, pow_pos}
+use Rattle.std.proofs.lemmas.Nat.{mul-le}
 use Rattle.std.specs.List.{ContainsAt as Has}
 use Rattle.std.proofs.ByRecursion.{All-get_or}
-use Rattle.std.proofs.lemmas.List.{length-set, length-append, get_or_default}
-use Rattle.std.proofs.lemmas.Bool.{ltb-false, le-ltb, eqb-true, eqb-false, cases_eq, cases_Bool, true≢false}
+use Rattle.std.proofs.lemmas.List.{length-append, get_or_default}
+use Rattle.std.proofs.lemmas.Bool.{ltb-false, le-ltb, eqb-true, cases_eq, true≢false}
 use Rattle.shapes.specs.declared.dims.Dim.{Dim}
 use Rattle.shapes.specs.Arrays.{Group, Below, number, radix, counts, chunks, total_chunks, mask, group, groups}
 use Rattle.shapes.specs.Limits.{Limits}
@@ -24,14 +24,13 @@ use Rattle.cubes.proofs.Groups.{groups_have, mask_back, mask_within, limits_edge
 use Rattle.cubes.proofs.Handing.{released_first, released_of_groups, handed_length}
 use Rattle.cubes.proofs.Trees.{sized}
 use Rattle.cubes.proofs.Naming.{block_within}
-use Rattle.runs.specs.declared.progress.ProgressTable.{ProgressTable}
 use Rattle.runs.specs.declared.control.Control.{Control}
 use Rattle.runs.specs.Trees.{Grown}
-use Rattle.runs.specs.Controls.{none_yet, counted_more, handed_at, counts_in, next_seen, Seen, Controls, DoneExactly}
+use Rattle.runs.specs.Controls.{handed_at, counts_in, next_seen, Seen, Controls, DoneExactly}
 use Rattle.runs.proofs.Growing.{chunks_few}
 use Rattle.runs.proofs.Naming.{block_radix_small}
 use Rattle.runs.proofs.Waiting.{length-counts, count_is, counts_more}
-use Rattle.runs.proofs.Steering.{scanned, same_groups, few_groups}
+use Rattle.runs.proofs.Steering.{scanned, same_groups}
 
 -- each chunk count plus 1 is at most twice the count
 pub blocks_double : (ds : List Dim) → Edged ds → block_count ds ≤ 2 ^ length ds * total_chunks ds
@@ -82,19 +81,19 @@ module _ (ds : List Dim) (place : ℕ → ℕ) (adds : Group → ℕ) (c : Contr
   next_is None e = s.idle e
   next_is (Some m) e = (next_mask m e, s.next_waits m e, next_of_all m e)
 
-  pub counted : Counted ds place adds (groups (length ds)) c.passed c.handed c.next (counts_in (length ds) c.table)
+  pub counted : Counted ds place adds (groups (length ds)) c.passed c.handed c.next (counts_in (length ds) c.counts)
   counted = record {
     within = s.within;
     since = s.since;
     until = s.until;
-    tallies = λ m l. count_is (length ds) c.table m l ∙ s.tallies m l;
-    all_counts = length-counts (length ds) c.table;
+    tallies = λ m l. count_is (length ds) c.counts m l ∙ s.tallies m l;
+    all_counts = length-counts (length ds) c.counts;
     next = next_is c.next refl;
   }
 
-  pub progress : Progress ds place adds (groups (length ds)) c.passed c.handed c.next (counts_in (length ds) c.table)
+  pub progress : Progress ds place adds (groups (length ds)) c.passed c.handed c.next (counts_in (length ds) c.counts)
   progress = ((progress_is_counted ds place adds (groups (length ds)) (scanned ds place adds c.tree s.grown) c.passed c.handed c.next
-      (counts_in (length ds) c.table)).1 counted).2
+      (counts_in (length ds) c.counts)).1 counted).2
 
   pub all_blocks : length (handing ds place adds (groups (length ds))) ≡ block_count ds
   all_blocks = handed_length ds place adds (groups (length ds)) (scanned ds place adds c.tree s.grown) (groups_have (length ds))
@@ -102,70 +101,67 @@ module _ (ds : List Dim) (place : ℕ → ℕ) (adds : Group → ℕ) (c : Contr
   pub handed_few : c.handed ≤ 2 ^ 40
   handed_few = omega (arith, s.until, released_few, all_blocks, blocks_few ds s.grown.limits)
 
-  pub passed_few : c.passed ≤ 2 ^ 34
-  passed_few = omega (arith, s.within, chunks_few ds s.grown.limits)
-
-pub controls_from : (ds : List Dim) (place : ℕ → ℕ) (adds : Group → ℕ) (c : Control) → Grown ds place adds c.tree → length c.table.groups ≡ 64 → c.passed ≤ total_chunks ds
-    → MaskWithin (length ds) c.next → Progress ds place adds (groups (length ds)) c.passed c.handed c.next (counts_in (length ds) c.table) → Controls ds place adds c
-controls_from ds place adds c g size l w p = record {
+pub controls_from : (ds : List Dim) (place : ℕ → ℕ) (adds : Group → ℕ) (c : Control) → Grown ds place adds c.tree → c.passed ≤ total_chunks ds
+    → MaskWithin (length ds) c.next → Progress ds place adds (groups (length ds)) c.passed c.handed c.next (counts_in (length ds) c.counts) → Controls ds place adds c
+controls_from ds place adds c g l w p = record {
   grown = g;
-  sized = size;
   within = it.within;
   since = it.since;
   until = it.until;
-  tallies = λ m b. sym (count_is (length ds) c.table m b) ∙ it.tallies m b;
+  tallies = λ m b. sym (count_is (length ds) c.counts m b) ∙ it.tallies m b;
   idle = λ e. subst (IsNext ds place adds (groups (length ds)) c.passed c.handed) e it.next;
   next_waits = λ m e. (at m e).1;
   next_of = λ m e. ap mask ((at m e).2 (record { of = []; at = [] })) ∙ mask-group (length ds) m (at m e).0;
 }
   where
-    it : Counted ds place adds (groups (length ds)) c.passed c.handed c.next (counts_in (length ds) c.table)
-    it = (progress_is_counted ds place adds (groups (length ds)) (scanned ds place adds c.tree g) c.passed c.handed c.next (counts_in (length ds) c.table)).0 (l, w, p)
+    it : Counted ds place adds (groups (length ds)) c.passed c.handed c.next (counts_in (length ds) c.counts)
+    it = (progress_is_counted ds place adds (groups (length ds)) (scanned ds place adds c.tree g) c.passed c.handed c.next (counts_in (length ds) c.counts)).0 (l, w, p)
 
     at : (m : ℕ) → c.next ≡ Some m → IsNext ds place adds (groups (length ds)) c.passed c.handed (Some m)
     at m e = subst (IsNext ds place adds (groups (length ds)) c.passed c.handed) e it.next
 
--- a chunk is passed
-pub controls_pass : (ds : List Dim) (place : ℕ → ℕ) (adds : Group → ℕ) (c : Control) (r : ℕ) → Controls ds place adds c → c.next ≡ None → c.passed < c.tree.total
-    → r ≡ 2 ^ c.tree.n → Controls ds place adds (record { tree = c.tree; table = c.table; passed = c.passed + 1; handed = c.handed; next = Some (r - 1) })
-controls_pass ds place adds c r s e l q = controls_from ds place adds (record { tree = c.tree; table = c.table; passed = c.passed + 1; handed = c.handed; next = Some (r - 1) })
-    s.grown s.sized (omega (arith, s.grown.total)) (omega (arith, q, pow_pos (length ds), same_groups ds place adds c.tree s.grown))
-    (subst (λ o. Progress ds place adds (groups (length ds)) (c.passed + 1) c.handed o cs) (ap Some root)
-    (subst (λ t. Progress ds place adds (groups (length ds)) t c.handed (Some (2 ^ length ds - 1)) cs) more
-    ((progress_laws ds place adds (groups (length ds)) (scanned ds place adds c.tree s.grown)).pass c.passed c.handed cs
-    (subst (λ o. Progress ds place adds (groups (length ds)) c.passed c.handed o cs) e (progress ds place adds c s)))))
+-- the same counts by other names
+counted_as : (ds : List Dim) (place : ℕ → ℕ) (adds : Group → ℕ) (t u k l : ℕ) (o p : Option ℕ) (xs ys : List ℕ) → t ≡ u → k ≡ l → o ≡ p → xs ≡ ys
+    → Progress ds place adds (groups (length ds)) t k o xs → Progress ds place adds (groups (length ds)) u l p ys
+counted_as ds place adds t u k l o p xs ys et ek eo ex here =
+    subst (λ n. Progress ds place adds (groups (length ds)) n l p ys) et (subst (λ n. Progress ds place adds (groups (length ds)) t n p ys) ek
+    (subst (λ n. Progress ds place adds (groups (length ds)) t k n ys) eo (subst (Progress ds place adds (groups (length ds)) t k o) ex here)))
+
+-- a chunk is passed: the root is next
+pub controls_pass : (ds : List Dim) (place : ℕ → ℕ) (adds : Group → ℕ) (c a : Control) (r : ℕ) → Controls ds place adds c → c.next ≡ None → c.passed < c.tree.total
+    → r + 1 ≡ 2 ^ c.tree.n → a.tree ≡ c.tree → a.counts ≡ c.counts → a.passed ≡ c.passed + 1 → a.handed ≡ c.handed → a.next ≡ Some r → Controls ds place adds a
+controls_pass ds place adds c a r s e l q tree_is counts_are passed_is handed_is next_is = controls_from ds place adds a (subst (Grown ds place adds) (sym tree_is) s.grown)
+    (omega (arith, s.grown.total)) (subst (MaskWithin (length ds)) (sym next_is) (omega (arith, same_groups ds place adds c.tree s.grown)))
+    (counted_as ds place adds (suc c.passed) a.passed c.handed a.handed (Some (2 ^ length ds - 1)) a.next (counts_in (length ds) c.counts) (counts_in (length ds) a.counts)
+    (omega arith) (sym handed_is) (ap Some root ∙ sym next_is) (ap (counts_in (length ds)) (sym counts_are))
+    ((progress_laws ds place adds (groups (length ds)) (scanned ds place adds c.tree s.grown)).pass c.passed c.handed (counts_in (length ds) c.counts)
+    (subst (λ o. Progress ds place adds (groups (length ds)) c.passed c.handed o (counts_in (length ds) c.counts)) e (progress ds place adds c s))))
   where
-    cs : List ℕ
-    cs = counts_in (length ds) c.table
-
-    more : suc c.passed ≡ c.passed + 1
-    more = omega arith
-
-    root : 2 ^ length ds - 1 ≡ r - 1
-    root = omega (arith, q, same_groups ds place adds c.tree s.grown)
+    root : 2 ^ length ds - 1 ≡ r
+    root = omega (arith, same_groups ds place adds c.tree s.grown)
 
 -- a block waits
 module _ (ds : List Dim) (place : ℕ → ℕ) (adds : Group → ℕ) (c : Control) (s : Controls ds place adds c) (m : ℕ) (e : c.next ≡ Some m) where
   is_next : IsNext ds place adds (groups (length ds)) c.passed c.handed (Some m)
   is_next = next_is ds place adds c s (Some m) e
 
-  waits_now : Progress ds place adds (groups (length ds)) c.passed c.handed (Some m) (counts_in (length ds) c.table)
-  waits_now = subst (λ o. Progress ds place adds (groups (length ds)) c.passed c.handed o (counts_in (length ds) c.table)) e (progress ds place adds c s)
+  waits_now : Progress ds place adds (groups (length ds)) c.passed c.handed (Some m) (counts_in (length ds) c.counts)
+  waits_now = subst (λ o. Progress ds place adds (groups (length ds)) c.passed c.handed o (counts_in (length ds) c.counts)) e (progress ds place adds c s)
 
   pub next_below : m < 2 ^ c.tree.n
-  next_below = omega (arith, is_next.0, same_groups ds place adds c.tree s.grown)
+  next_below = c.in_tree m e
 
   pub mask_small : m < 64
-  mask_small = omega (arith, next_below, few_groups ds place adds c.tree s.grown)
+  mask_small = omega (arith, next_below, c.tree.few)
 
-  count_now : get_or (counts_in (length ds) c.table) m 0 ≡ handed_at c.table m
-  count_now = count_is (length ds) c.table m is_next.0
+  count_now : get_or (counts_in (length ds) c.counts) m 0 ≡ handed_at c.counts m
+  count_now = count_is (length ds) c.counts m is_next.0
 
-  pub count_small : handed_at c.table m < 2 ^ 34
+  pub count_small : handed_at c.counts m < 2 ^ 34
   count_small = omega (
     arith,
     count_now,
-    ((progress_laws ds place adds (groups (length ds)) (scanned ds place adds c.tree s.grown)).next_is c.passed c.handed m (counts_in (length ds) c.table)
+    ((progress_laws ds place adds (groups (length ds)) (scanned ds place adds c.tree s.grown)).next_is c.passed c.handed m (counts_in (length ds) c.counts)
         is_next.0 s.within waits_now).1,
     block_radix_small ds place adds c.tree s.grown m,
   )
@@ -173,57 +169,53 @@ module _ (ds : List Dim) (place : ℕ → ℕ) (adds : Group → ℕ) (c : Contr
   pub some_released : c.handed < released ds place adds (groups (length ds)) c.passed
   some_released = is_next.1
 
-  pub block_is : (k : ℕ) → k ≡ handed_at c.table m → (b : Block) → get_or (handing ds place adds (groups (length ds))) c.handed b
+  pub block_is : (k : ℕ) → k ≡ handed_at c.counts m → (b : Block) → get_or (handing ds place adds (groups (length ds))) c.handed b
       ≡ record { of = group (length ds) m; at = scan_digits place (radix (group (length ds) m) (counts ds)) k }
   block_is k q b = (progress_laws ds place adds (groups (length ds)) (scanned ds place adds c.tree s.grown)).next c.passed c.handed m
-      (counts_in (length ds) c.table) is_next.0 s.within waits_now b
+      (counts_in (length ds) c.counts) is_next.0 s.within waits_now b
       ∙ ap (λ x. record { of = group (length ds) m; at = scan_digits place (radix (group (length ds) m) (counts ds)) x }) (count_now ∙ sym q)
 
-  pub coordinates_next : (k : ℕ) (r : List ℕ) → k ≡ handed_at c.table m → r ≡ six 0 (scan_digits place (radix (group (length ds) m) (counts ds)) k) → (b : Block)
+  pub coordinates_next : (k : ℕ) (r : List ℕ) → k ≡ handed_at c.counts m → r ≡ six 0 (scan_digits place (radix (group (length ds) m) (counts ds)) k) → (b : Block)
       → ((get_or (handing ds place adds (groups (length ds))) c.handed b).of ≡ group (length ds) m)
       × (r ≡ six 0 (get_or (handing ds place adds (groups (length ds))) c.handed b).at)
   coordinates_next k r q is b = (ap (λ x. x.of) (block_is k q b), is ∙ ap (six 0) (sym (ap (λ x. x.at) (block_is k q b))))
 
-  pub next_within : Below (radix (group (length ds) m) (counts ds)) (scan_digits place (radix (group (length ds) m) (counts ds)) (handed_at c.table m))
-  next_within = block_within ds place (limits_edged ds s.grown.limits) s.grown.order (group (length ds) m) (length-group (length ds) m) (handed_at c.table m)
+  pub next_within : Below (radix (group (length ds) m) (counts ds)) (scan_digits place (radix (group (length ds) m) (counts ds)) (handed_at c.counts m))
+  next_within = block_within ds place (limits_edged ds s.grown.limits) s.grown.order (group (length ds) m) (length-group (length ds) m) (handed_at c.counts m)
 
   pub next_filled : (r : List ℕ) → ((b : Block) → ((get_or (handing ds place adds (groups (length ds))) c.handed b).of ≡ group (length ds) m)
       × (r ≡ six 0 (get_or (handing ds place adds (groups (length ds))) c.handed b).at))
-      → r ≡ six 0 (scan_digits place (radix (group (length ds) m) (counts ds)) (handed_at c.table m))
-  next_filled r is = let b : Block = record { of = []; at = [] } in (is b).1 ∙ ap (λ x. six 0 x.at) (block_is (handed_at c.table m) refl b)
+      → r ≡ six 0 (scan_digits place (radix (group (length ds) m) (counts ds)) (handed_at c.counts m))
+  next_filled r is = let b : Block = record { of = []; at = [] } in (is b).1 ∙ ap (λ x. six 0 x.at) (block_is (handed_at c.counts m) refl b)
 
-  pub named_next : (k : ℕ) → k ≡ number (radix (group (length ds) m) (counts ds)) (scan_digits place (radix (group (length ds) m) (counts ds)) (handed_at c.table m))
+  pub named_next : (k : ℕ) → k ≡ number (radix (group (length ds) m) (counts ds)) (scan_digits place (radix (group (length ds) m) (counts ds)) (handed_at c.counts m))
       → (b : Block) → (m, k) ≡ named ds (get_or (handing ds place adds (groups (length ds))) c.handed b)
   named_next k q b =
       let pair : ℕ → ℕ → ℕ × ℕ = λ x y. (x, y) in
       ap (pair m) q
-      ∙ (ap (λ x. pair x (number (radix (group (length ds) m) (counts ds)) (scan_digits place (radix (group (length ds) m) (counts ds)) (handed_at c.table m))))
+      ∙ (ap (λ x. pair x (number (radix (group (length ds) m) (counts ds)) (scan_digits place (radix (group (length ds) m) (counts ds)) (handed_at c.counts m))))
       (sym (mask-group (length ds) m is_next.0))
-      ∙ ap (named ds) (sym (block_is (handed_at c.table m) refl b)))
+      ∙ ap (named ds) (sym (block_is (handed_at c.counts m) refl b)))
 
   -- it is handed out
-  pub controls_hand : (tb : ProgressTable) (r : Option ℕ) → tb.groups ≡ set c.table.groups m (counted_more (get_or c.table.groups m none_yet))
-      → Seen c.tree c.passed tb m r → Controls ds place adds (record { tree = c.tree; table = tb; passed = c.passed; handed = c.handed + 1; next = r })
+  pub controls_hand : (a : Control) → a.tree ≡ c.tree → a.counts ≡ set c.counts m (get_or c.counts m 0 + 1) → a.passed ≡ c.passed → a.handed ≡ c.handed + 1
+      → Seen c.tree c.passed a.counts m a.next → Controls ds place adds a
   unfolding next_seen
-  controls_hand tb r q (inside, is) = controls_from ds place adds (record { tree = c.tree; table = tb; passed = c.passed; handed = c.handed + 1; next = r })
-      s.grown (ap length q ∙ (length-set c.table.groups m (counted_more (get_or c.table.groups m none_yet)) ∙ s.sized)) s.within
-      (subst (λ k. MaskWithin k r) s.grown.dimensions inside)
-      (subst (λ k. Progress ds place adds (groups (length ds)) c.passed k r (counts_in (length ds) tb)) more
-      (subst (Progress ds place adds (groups (length ds)) c.passed (suc c.handed) r) moved
-      ((progress_laws ds place adds (groups (length ds)) (scanned ds place adds c.tree s.grown)).hand c.passed c.handed m cs r is_next.0 waits_now
-      (subst (λ xs. group_at (length ds) r ≡ seen_with xs) (sym moved) (is ds place adds s.grown)))))
+  controls_hand a tree_is counts_are passed_is handed_is (inside, is) = controls_from ds place adds a (subst (Grown ds place adds) (sym tree_is) s.grown)
+      (omega (arith, s.within)) (subst (λ k. MaskWithin k a.next) s.grown.dimensions inside)
+      (counted_as ds place adds c.passed a.passed (suc c.handed) a.handed a.next a.next (set cs m (suc (get_or cs m 0))) (counts_in (length ds) a.counts)
+      (sym passed_is) (omega arith) refl moved
+      ((progress_laws ds place adds (groups (length ds)) (scanned ds place adds c.tree s.grown)).hand c.passed c.handed m cs a.next is_next.0 waits_now
+      (subst (λ xs. group_at (length ds) a.next ≡ seen_with xs) (sym moved) (is ds place adds s.grown))))
     where
       cs : List ℕ
-      cs = counts_in (length ds) c.table
+      cs = counts_in (length ds) c.counts
 
       seen_with : List ℕ → Option Group
       seen_with xs = next_from (tree ds place adds (groups (length ds))) c.passed (suc (length ds)) (table_of xs) (group (length ds) m)
 
-      more : suc c.handed ≡ c.handed + 1
-      more = omega arith
-
-      moved : set cs m (suc (get_or cs m 0)) ≡ counts_in (length ds) tb
-      moved = counts_more (length ds) c.table tb m is_next.0 (omega (arith, mask_small, s.sized)) q
+      moved : set cs m (suc (get_or cs m 0)) ≡ counts_in (length ds) a.counts
+      moved = counts_more (length ds) c.counts m is_next.0 (omega (arith, mask_small, c.all_counts)) ∙ ap (counts_in (length ds)) (sym counts_are)
 
 -- done
 module _ (ds : List Dim) (place : ℕ → ℕ) (adds : Group → ℕ) (c : Control) (s : Controls ds place adds c) where
@@ -246,17 +238,6 @@ module _ (ds : List Dim) (place : ℕ → ℕ) (adds : Group → ℕ) (c : Contr
   all_released e = ap (released ds place adds (groups (length ds))) e
       ∙ handed_length ds place adds (groups (length ds)) (scanned ds place adds c.tree s.grown) (groups_have (length ds))
 
-  pub done_is : (w r : Bool) → w ≡ ltb c.handed (released ds place adds (groups (length ds)) c.passed) → r ≡ (eqb c.passed c.tree.total && not w)
-      → (r ≡ true) ↔ ((c.passed ≡ total_chunks ds) × (c.handed ≡ released ds place adds (groups (length ds)) c.passed))
-  done_is w r waits is = by (cases_Bool (eqb c.passed c.tree.total))
-    where
-      goal : Bool → Type 0
-      goal z = (z ≡ true) ↔ ((c.passed ≡ total_chunks ds) × (c.handed ≡ released ds place adds (groups (length ds)) c.passed))
-
-      by : (eqb c.passed c.tree.total ≡ true) ⊎ (eqb c.passed c.tree.total ≡ false) → goal r
-      by (inl t) = subst goal (sym (is ∙ ap (λ z. z && not w) t)) (done_then w (eqb-true c.passed c.tree.total t) waits)
-      by (inr f) = subst goal (sym (is ∙ ap (λ z. z && not w) f ∙ sym f)) (done_else (eqb-false c.passed c.tree.total f))
-
   pub done_all : (r : Bool) → (r ≡ true) ↔ ((c.passed ≡ total_chunks ds) × (c.handed ≡ released ds place adds (groups (length ds)) c.passed))
       → (r ≡ true) ↔ (c.passed + c.handed ≡ total_chunks ds + block_count ds)
   done_all r (to, from) = (
@@ -267,7 +248,16 @@ module _ (ds : List Dim) (place : ℕ → ℕ) (adds : Group → ℕ) (c : Contr
   pub done_fits : (c.passed + c.handed ≤ total_chunks ds + block_count ds) × (total_chunks ds + block_count ds < 2 ^ 64)
   done_fits = (omega (arith, s.within, s.until, released_few ds place adds c s, all_blocks ds place adds c s), all_fit ds s.grown.limits)
 
-  -- where no block waits and not all is done, a chunk is left to be passed
+pub done_exactly : (c : Control) (r : Bool) → ((ds : List Dim) (place : ℕ → ℕ) (adds : Group → ℕ) → Controls ds place adds c
+    → (r ≡ true) ↔ ((c.passed ≡ total_chunks ds) × (c.handed ≡ released ds place adds (groups (length ds)) c.passed))) → DoneExactly c r
+done_exactly c r when = record {
+  when = when;
+  all = λ ds place adds s. done_all ds place adds c s r (when ds place adds s);
+  fits = λ ds place adds s. done_fits ds place adds c s;
+}
+
+-- where no block waits and not all is done, a chunk is left to be passed
+module _ (ds : List Dim) (place : ℕ → ℕ) (adds : Group → ℕ) (c : Control) (s : Controls ds place adds c) where
   pub chunk_left : (r w : Bool) → DoneExactly c r → r ≡ false → w ≡ ltb c.handed (released ds place adds (groups (length ds)) c.passed) → w ≡ false
       → c.passed < c.tree.total
   chunk_left r w done off is rests = ⊎_elim

@@ -1,30 +1,23 @@
 -- The table of bases and the regions by mask, for the dimensions that are there.
-use Rattle.std.proofs.Common.{◌≡◌, ℕ, ◌+◌, ◌-◌, ◌^◌, ◌<◌, ◌≤◌, false, cond, ◌⊎◌, List, length, get_or, sym, refl, ap, ◌∙◌, inl, inr, arith, pow_mono}
+use Rattle.std.proofs.Common.{◌≡◌, ℕ, ◌+◌, ◌-◌, ◌^◌, ◌<◌, ◌≤◌, false, cond, ◌⊎◌, List, length, get_or, sym, refl, ap, ◌∙◌, inl, inr, arith}
 use Rattle.std.proofs.lemmas.Bool.{cases_lt, lt-ltb, le-ltb}
 use Rattle.shapes.specs.declared.dims.Dim.{Dim}
 use Rattle.shapes.specs.Arrays.{Group, volume, group}
 use Rattle.shapes.specs.Views.{six}
 use Rattle.shapes.proofs.Masks.{length-group}
-use Rattle.plans.specs.Plans.{need}
 use Rattle.cubes.specs.Summaries.{Divided, big}
 use Rattle.cubes.proofs.Joins.{big_cong}
 use Rattle.cubes.proofs.ScanNumbers.{sums}
 use Rattle.runs.specs.declared.layouts.Layout.{Layout}
 use Rattle.runs.specs.Layouts.{lacked_place, mask_cells, mask_base}
-use Rattle.runs.specs.Grids.{cells_in, Narrow, LaidOut, RegionOf, lacked_at, region_at, cells_below, Bases}
+use Rattle.runs.specs.Grids.{cells_in, LaidOut, RegionOf, lacked_at, region_at, cells_below, Bases}
 use Rattle.runs.proofs.Padding.{six_padded, group_pad, cells_in_are}
-use Rattle.runs.proofs.RegionBases.{root_base, other_base, root_cells, regions_need, region_within}
-use Rattle.runs.proofs.BlockCells.{narrow}
+use Rattle.runs.proofs.RegionBases.{root_base, other_base}
 
 module _ (ds : List Dim) (place : ℕ → ℕ) (adds : Group → ℕ) (divided : Divided ds) (y : Layout) (laid : LaidOut ds place y) (table : List ℕ) (root : ℕ)
     (is_root : root + 1 ≡ 2 ^ length ds) (adding : (m : ℕ) → m < root → (get_or table m 0 ≡ adds (group (length ds) m)) × (get_or table m 0 < length ds)) where
   abbrev n : ℕ
   n = length ds
-
-  pub root_few : root < 64
-  root_few =
-      let le : 2 ^ n ≤ 2 ^ 6 = pow_mono laid.few in
-      omega arith
 
   kept_is : (m : ℕ) → m ≤ root → group 6 m ≡ six false (group n m)
   kept_is m l =
@@ -51,12 +44,6 @@ module _ (ds : List Dim) (place : ℕ → ℕ) (adds : Group → ℕ) (divided :
   pub cells_below_are : (m : ℕ) → m ≤ root → cells_below y table root m ≡ big 0 ◌+◌ (mask_cells ds place adds) m
   cells_below_are m l = big_cong 0 ◌+◌ sums (λ k. cells_in y (region_at y table root k 0)) (mask_cells ds place adds) m (λ k q. cells_are k 0 (omega arith))
 
-  -- the last region ends where the need does
-  pub table_need : volume ds + cells_below y table root root ≡ need ds place adds
-  table_need =
-      let e : root ≡ 2 ^ n - 1 = omega arith in
-      omega (arith, cells_below_are root (omega arith), ap (big 0 ◌+◌ (mask_cells ds place adds)) e, root_cells ds place adds, regions_need ds place adds)
-
   pub bases_are : (bases : List ℕ) → Bases y table root (volume ds) bases → (m : ℕ) → m ≤ root → get_or bases m 0 ≡ mask_base ds place adds m
   bases_are bases based m l = by (cases_lt m root)
     where
@@ -66,8 +53,3 @@ module _ (ds : List Dim) (place : ℕ → ℕ) (adds : Group → ℕ) (divided :
           let e : m ≡ root = omega arith in
           let r : root ≡ 2 ^ n - 1 = omega arith in
           ap (λ z. get_or bases z 0) e ∙ based.own ∙ sym (ap (mask_base ds place adds) (e ∙ r) ∙ root_base ds place adds)
-
-  pub region_narrow : (m base : ℕ) → m ≤ root → need ds place adds < 2 ^ 64 → Narrow y (region_at y table root m base)
-  region_narrow m base l small =
-      narrow ds place divided y laid (group n m) (length-group n m) 0 (lacked_place ds place adds m) (region_at y table root m 0) (region_is m 0 l) (need ds place adds)
-      (omega (arith, region_within ds place adds m (omega arith))) small

@@ -1,16 +1,14 @@
 -- The radices of a group, and the product of those at the first places.
-use Rattle.std.proofs.Common.{◌≡◌, ℕ, zero, suc, ◌+◌, ◌*◌, ◌/◌, ◌%◌, ◌^◌, ◌<◌, ◌≤◌, Bool, true, false, cond, eqb, ltb, ◌⊎◌, List, [], ◌∷◌, length, get_or, take, set, sym, refl, ap, ◌∙◌, subst, inl, inr, arith}
-use Rattle.std.proofs.lemmas.List.{length-take-le, get_or-take, get_or_default}
+use Rattle.std.proofs.Common.{◌≡◌, ℕ, zero, suc, ◌+◌, ◌*◌, ◌/◌, ◌%◌, ◌^◌, ◌<◌, ◌≤◌, Bool, true, false, cond, eqb, ltb, ◌⊎◌, List, [], ◌∷◌, length, get_or, sym, refl, ap, ◌∙◌, ap₂, subst, inl, inr, arith}
+use Rattle.std.proofs.lemmas.List.{get_or_default}
 use Rattle.std.proofs.lemmas.Nat.{mul-le}
 use Rattle.std.proofs.lemmas.Bool.{cases_eq}
 use Rattle.shapes.specs.Arrays.{product, radix, group}
-use Rattle.shapes.specs.Views.{six}
-use Rattle.shapes.proofs.Held.{fills_more, fills_all}
 use Rattle.shapes.proofs.Masks.{keeps_bit, length-group}
 use Rattle.plans.specs.Views.{place_in}
 use Rattle.cubes.specs.Summaries.{big}
 use Rattle.cubes.specs.Scans.{width}
-use Rattle.cubes.proofs.Cells.{length-radix}
+use Rattle.shapes.proofs.Radixes.{length-radix}
 use Rattle.cubes.proofs.Joins.{big_first, big_last}
 use Rattle.cubes.proofs.RegionSteps.{getD_radix_any}
 use Rattle.cubes.proofs.ScanNumbers.{products}
@@ -23,23 +21,6 @@ pub radix_at : (n m : ℕ) (ks : List ℕ) (i : ℕ) → length ks ≡ n → i <
 radix_at n m ks i l h =
     getD_radix_any (group n m) ks i (omega (arith, length-group n m)) (omega (arith, l))
     ∙ ap (λ b. cond b (get_or ks i 1) 1) (keeps_bit n m i h)
-
--- a loop that fills them in
-module _ (n : ℕ) (numbers : List ℕ) (m : ℕ) (few : n ≤ 6) (long : length numbers ≡ 6) where
-  pub front_long : length (take n numbers) ≡ n
-  front_long = length-take-le n numbers (omega arith)
-
-  pub radices_long : length (radix (group n m) (take n numbers)) ≡ n
-  radices_long = radix_long n m (take n numbers) front_long
-
-  pub radices_more : (ys : List ℕ) (i y : ℕ) → i < n → ys ≡ six 1 (take i (radix (group n m) (take n numbers))) → y ≡ cond (eqb (m / 2 ^ i % 2) 1) (get_or numbers i 0) 1
-      → set ys i y ≡ six 1 (take (i + 1) (radix (group n m) (take n numbers)))
-  radices_more ys i y l e is = fills_more 1 (radix (group n m) (take n numbers)) (omega (arith, radices_long)) ys i y (omega (arith, radices_long)) e
-      (is ∙ (ap (λ k. cond (eqb (m / 2 ^ i % 2) 1) k 1) (get_or_default numbers i 0 1 (omega arith) ∙ sym (get_or-take n numbers i 1 l))
-      ∙ sym (radix_at n m (take n numbers) i front_long l)))
-
-  pub radices_all : (ys : List ℕ) (i : ℕ) → n ≤ i → ys ≡ six 1 (take i (radix (group n m) (take n numbers))) → ys ≡ six 1 (radix (group n m) (take n numbers))
-  radices_all ys i l e = fills_all 1 (radix (group n m) (take n numbers)) (omega (arith, radices_long)) ys i (omega (arith, radices_long)) e
 
 -- products over the first i numbers
 pub product_front_le : (f g : ℕ → ℕ) (n i : ℕ) → i ≤ n → ((j : ℕ) → j < n → (1 ≤ f j) × (f j ≤ g j)) → (1 ≤ big 1 ◌*◌ f i) × (big 1 ◌*◌ f i ≤ big 1 ◌*◌ g n)
@@ -88,25 +69,17 @@ part_small place ks p i some l =
     let r = product_front_le (λ j. cond (ltb (place j) p) (get_or ks j 1) 1) (λ j. get_or ks j 1) (length ks) i l (λ j h. one_or_more (ltb (place j) p) (get_or ks j 1) (some j h)) in
     (r.0, subst (λ k. big 1 ◌*◌ (λ j. cond (ltb (place j) p) (get_or ks j 1) 1) i ≤ k) (big_product ks) r.1)
 
--- the same for the first n of six radices, as code reads them
-module _ (n : ℕ) (radices places : List ℕ) (p : ℕ) (few : n ≤ 6) (long : length radices ≡ 6) (some : (i : ℕ) → i < n → 0 < get_or radices i 1)
-    (small : product (take n radices) ≤ 2 ^ 34) where
-  taken_long : length (take n radices) ≡ n
-  taken_long = length-take-le n radices (omega arith)
+pub width_some : (place : ℕ → ℕ) (ks : List ℕ) (p : ℕ) → ((i : ℕ) → i < length ks → 0 < get_or ks i 1) → 0 < width place ks p
+width_some place ks p some = omega (arith, part_all place ks p (length ks) refl, (part_small place ks p (length ks) some (omega arith)).0)
 
-  taken_at : (i : ℕ) → i < n → get_or (take n radices) i 1 ≡ get_or radices i 1
-  taken_at i l = get_or-take n radices i 1 l
+-- the same for six radices, as code reads them
+pub each_some : (radices : List ℕ) → length radices ≡ 6 → ((i : ℕ) → i < 6 → 1 ≤ get_or radices i 0) → (i : ℕ) → i < length radices → 0 < get_or radices i 1
+each_some radices long some i l = omega (arith, some i (omega arith), get_or_default radices i 0 1 l)
 
-  pub before_small : (i so_far : ℕ) → i ≤ n → so_far ≡ part (place_in places) (take n radices) p i → (0 < so_far) × (so_far ≤ 2 ^ 34)
-  before_small i so_far l e =
-      let r = part_small (place_in places) (take n radices) p i (λ j h. subst (λ k. 0 < k) (sym (taken_at j (omega (arith, taken_long)))) (some j (omega (arith, taken_long)))) (omega (arith, taken_long)) in
-      (omega (arith, e, r.0), omega (arith, e, r.1, small))
-
-  pub before_more : (i so_far f : ℕ) → i < n → so_far ≡ part (place_in places) (take n radices) p i → f ≡ cond (ltb (get_or places i 0) p) (get_or radices i 0) 1
-      → so_far * f ≡ part (place_in places) (take n radices) p (i + 1)
-  before_more i so_far f l e is =
-      ap (λ k. k * f) e ∙ (ap (λ k. part (place_in places) (take n radices) p i * k) (is ∙ ap (λ k. cond (ltb (get_or places i 0) p) k 1) (get_or_default radices i 0 1 (omega arith) ∙ sym (taken_at i l)))
-      ∙ part_more (place_in places) (take n radices) p i)
-
-  pub before_all : (i so_far : ℕ) → i ≡ n → so_far ≡ part (place_in places) (take n radices) p i → so_far ≡ width (place_in places) (take n radices) p
-  before_all i so_far e is = is ∙ part_all (place_in places) (take n radices) p i (e ∙ sym taken_long)
+module _ (radices places : List ℕ) (p : ℕ) (long : length radices ≡ 6) (some : (i : ℕ) → i < 6 → 1 ≤ get_or radices i 0) (small : product radices ≤ 2 ^ 34) where
+  pub before_more : (i so_far f : ℕ) → i < 6 → so_far ≡ part (place_in places) radices p i → f ≡ cond (ltb (get_or places i 0) p) (get_or radices i 0) 1
+      → (so_far * f ≡ part (place_in places) radices p (i + 1)) × (so_far * f ≤ 2 ^ 34)
+  before_more i so_far f l e is = (more, omega (arith, more, small, (part_small (place_in places) radices p (i + 1) (each_some radices long some) (omega arith)).1))
+    where
+      more : so_far * f ≡ part (place_in places) radices p (i + 1)
+      more = ap₂ ◌*◌ e (is ∙ ap (λ k. cond (ltb (get_or places i 0) p) k 1) (get_or_default radices i 0 1 (omega arith))) ∙ part_more (place_in places) radices p i

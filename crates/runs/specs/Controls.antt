@@ -1,6 +1,6 @@
 -- Which block a run hands out next, from counts by mask. Assumes nothing.
 -- A scan goes by its dimensions, an order and a choice of parents; all groups are summarised.
-use Rattle.std.specs.Prelude.{◌≡◌, ℕ, suc, ◌+◌, ◌*◌, ◌/◌, ◌^◌, ◌<◌, ◌≤◌, Bool, true, false, cond, ◌⊎◌, ◌↔◌, List, map, length, get_or, take, is_some, Some, None, Option, ◌==◌, nat_lt, slice_index_or}
+use Rattle.std.specs.Prelude.{◌≡◌, ℕ, suc, ◌+◌, ◌*◌, ◌/◌, ◌^◌, ◌<◌, ◌≤◌, Bool, true, false, cond, ◌⊎◌, ◌↔◌, List, map, length, get_or, take, is_some, Some, None, Option, ◌==◌, nat_lt, slice_index, slice_index_or}
 use Rattle.std.specs.List.{range_with_len}
 use Rattle.shapes.specs.declared.dims.Dim.{Dim}
 use Rattle.shapes.specs.Arrays.{Group, total_chunks, mask, group, groups}
@@ -10,52 +10,44 @@ use Rattle.cubes.specs.Control.{tree, next_from}
 use Rattle.cubes.specs.Progress.{table_of, group_at, MaskWithin}
 use Rattle.cubes.specs.Turns.{next_group}
 use Rattle.runs.specs.declared.tree.Tree.{Tree}
-use Rattle.runs.specs.declared.progress.Progress.{Progress}
-use Rattle.runs.specs.declared.progress.ProgressTable.{ProgressTable}
 use Rattle.runs.specs.declared.control.Control.{Control}
 use Rattle.runs.specs.Trees.{Grown, node}
 
--- The table
+-- The counts by mask
 
-abbrev pub none_yet : Progress
-none_yet = record { handed = 0 }
-
-abbrev pub counted_more : Progress → Progress
-counted_more p = record { handed = p.handed + 1 }
-
-abbrev pub handed_at : ProgressTable → ℕ → ℕ
-handed_at tb m = (get_or tb.groups m none_yet).handed
+abbrev pub handed_at : List ℕ → ℕ → ℕ
+handed_at tb m = slice_index tb m
 
 -- the counts of the groups of n dimensions
-unfoldable pub counts_in : ℕ → ProgressTable → List ℕ
+unfoldable pub counts_in : ℕ → List ℕ → List ℕ
 counts_in n tb = map (handed_at tb) (range_with_len 0 (2 ^ n))
 
 -- What is next, by masks
 
 -- a group but the root waits while its parent's blocks make more of its blocks due than were handed out
-abbrev pub waiting : Tree → ProgressTable → ℕ → Bool
+abbrev pub waiting : Tree → List ℕ → ℕ → Bool
 waiting tr tb m = nat_lt (handed_at tb m) ((handed_at tb (node tr m).up / (node tr m).period) * (node tr m).share)
 
 -- whether a group waits: the root while fewer of its blocks were handed out than the t chunks passed
-abbrev pub is_waiting : Tree → ℕ → ProgressTable → ℕ → Bool
+abbrev pub is_waiting : Tree → ℕ → List ℕ → ℕ → Bool
 is_waiting tr t tb g = cond (g + 1 == 2 ^ tr.n) (nat_lt (handed_at tb g) t) (waiting tr tb g)
 
 -- the first child of a group that waits, by rising mask
-abbrev pub FirstChild : Tree → ProgressTable → ℕ → Option ℕ → Type 0
+abbrev pub FirstChild : Tree → List ℕ → ℕ → Option ℕ → Type 0
 FirstChild tr tb g None = (k : ℕ) → k < g → (node tr k).up ≡ g → waiting tr tb k ≡ false
 FirstChild tr tb g (Some m) = (m < g) × ((node tr m).up ≡ g) × (waiting tr tb m ≡ true) × ((k : ℕ) → k < m → (node tr k).up ≡ g → waiting tr tb k ≡ false)
 
 -- the first child of a group that waits, else the group if it waits
-abbrev pub Here : Tree → ℕ → ProgressTable → ℕ → Option ℕ → Type 0
+abbrev pub Here : Tree → ℕ → List ℕ → ℕ → Option ℕ → Type 0
 Here tr t tb g None = FirstChild tr tb g None × (is_waiting tr t tb g ≡ false)
 Here tr t tb g (Some m) = FirstChild tr tb g (Some m) ⊎ ((m ≡ g) × FirstChild tr tb g None × (is_waiting tr t tb g ≡ true))
 
 -- what is next, seen from a group, after t chunks
-unfoldable pub next_seen : List Dim → (ℕ → ℕ) → (Group → ℕ) → ℕ → ProgressTable → ℕ → Option Group
+unfoldable pub next_seen : List Dim → (ℕ → ℕ) → (Group → ℕ) → ℕ → List ℕ → ℕ → Option Group
 next_seen ds place adds t tb m =
     next_from (tree ds place adds (groups (length ds))) t (suc (length ds)) (table_of (counts_in (length ds) tb)) (group (length ds) m)
 
-abbrev pub Seen : Tree → ℕ → ProgressTable → ℕ → Option ℕ → Type 0
+abbrev pub Seen : Tree → ℕ → List ℕ → ℕ → Option ℕ → Type 0
 Seen tr t tb g r = MaskWithin tr.n r × ((ds : List Dim) (place : ℕ → ℕ) (adds : Group → ℕ) → Grown ds place adds tr
     → group_at (length ds) r ≡ next_seen ds place adds t tb g)
 
@@ -65,12 +57,11 @@ Seen tr t tb g r = MaskWithin tr.n r × ((ds : List Dim) (place : ℕ → ℕ) (
 -- and which group is next
 pub record Controls (ds : List Dim) (place : ℕ → ℕ) (adds : Group → ℕ) (c : Control) : Type 0 where
   pub grown : Grown ds place adds c.tree
-  pub sized : length c.table.groups ≡ 64
   pub within : c.passed ≤ total_chunks ds
   pub since : (u : ℕ) → suc u ≡ c.passed → released ds place adds (groups (length ds)) u ≤ c.handed
   pub until : c.handed ≤ released ds place adds (groups (length ds)) c.passed
   pub tallies : (m : ℕ) → m < 2 ^ length ds
-      → handed_at c.table m ≡ tally (take c.handed (handing ds place adds (groups (length ds)))) (group (length ds) m)
+      → handed_at c.counts m ≡ tally (take c.handed (handing ds place adds (groups (length ds)))) (group (length ds) m)
   pub idle : c.next ≡ None → c.handed ≡ released ds place adds (groups (length ds)) c.passed
   pub next_waits : (m : ℕ) → c.next ≡ Some m → c.handed < released ds place adds (groups (length ds)) c.passed
   pub next_of : (m : ℕ) → c.next ≡ Some m → mask (next_group ds place adds (groups (length ds)) c.handed) ≡ m

@@ -2,16 +2,15 @@
 use Rattle.std.specs.Prelude.{◌≡◌, ℕ, ◌^◌, ◌<◌, ◌≤◌, Bool, true, false, not, ◌&&◌, List, length, Some, None, Option, ◌≢◌, slice_index_or}
 use Rattle.shapes.specs.declared.dims.Dim.{Dim}
 use Rattle.shapes.specs.Arrays.{Group, group}
-use Rattle.shapes.specs.Views.{dims_of}
 use Rattle.cubes.specs.Turns.{in_release}
 use Rattle.runs.specs.declared.state.State.{State}
 use Rattle.runs.specs.declared.tree.Tree.{Tree}
 use Rattle.runs.specs.declared.steps.NextBlock.{NextBlock}
 use Rattle.runs.specs.Trees.{Grown}
-use Rattle.runs.specs.Grids.{block_cells, children_joined, region_by}
+use Rattle.runs.specs.Grids.{block_cells, all_joined, region_in}
 use Rattle.runs.specs.Contents.{SameRegion, EmptyRegion}
 use Rattle.runs.specs.Planned.{places_of, adds_of, need_of}
-use Rattle.runs.specs.Holdings.{Moment, dims_in, root_mask}
+use Rattle.runs.specs.Holdings.{Moment, dims_in}
 use Rattle.runs.specs.Steps.{HandsOn}
 
 -- Releases by masks
@@ -50,12 +49,12 @@ pub record EmptiedOver {M : Type 0} (empty : M) (ds : List Dim) (j : ℕ) (next 
 -- the cells of the block x in its region, by offset
 abbrev pub block_in : {M : Type 0} → M → List M → State → NextBlock → List M
 block_in empty cells s x =
-    block_cells empty cells s.layout (region_by s.layout s.control.tree.adds s.bases (root_mask (dims_of s.shape)) x.mask) x.at
+    block_cells empty cells s.regions.layout (region_in s.regions x.mask) x.at
 
 -- the cells after the block x, which is next, is joined into the regions of all children
 abbrev pub joined_on : {M : Type 0} → M → (M → M → M) → Moment M → NextBlock → List M
 joined_on empty op b x =
-    children_joined empty op b.cells b.state.layout b.state.control.tree.adds b.state.bases (root_mask (dims_in b)) x.mask x.at 6
+    all_joined empty op b.cells b.state.regions x.mask x.at 6
 
 -- the block x is handed out: it is joined into the regions of all children, the state goes on, and the regions whose release is over are emptied
 pub record PassesBlock {M : Type 0} (empty : M) (op : M → M → M) (b : Moment M) (x : NextBlock) (a : Moment M) : Type 0 where

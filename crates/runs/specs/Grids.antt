@@ -1,18 +1,19 @@
 -- Regions by strides, over six dimensions: what the functions on regions work with. Assumes nothing.
 -- A dimension that is not there has size 1 and edge 1, and is not kept.
-use Rattle.std.specs.Prelude.{◌≡◌, ℕ, zero, suc, ◌+◌, ◌-◌, ◌*◌, ◌%◌, ◌^◌, ◌<◌, ◌≤◌, Bool, false, cond, ◌&&◌, List, map, length, get_or, ◌==◌, nat_lt, slice_index, slice_index_or}
+use Rattle.std.specs.Prelude.{◌≡◌, ℕ, zero, suc, ◌+◌, ◌-◌, ◌*◌, ◌^◌, ◌<◌, ◌≤◌, Bool, false, cond, ◌&&◌, List, map, length, get_or, ◌==◌, nat_lt, slice_index, slice_index_or}
 use Rattle.std.specs.List.{range_with_len}
 use Rattle.shapes.specs.declared.dims.Dim.{Dim}
 use Rattle.shapes.specs.Arrays.{Group, radix, edges, dim, group}
-use Rattle.shapes.specs.Views.{six}
+use Rattle.shapes.specs.Views.{dims_of, six}
 use Rattle.cubes.specs.Summaries.{big}
 use Rattle.runs.specs.declared.layouts.Layout.{Layout}
 use Rattle.runs.specs.declared.layouts.Region.{Region}
+use Rattle.runs.specs.declared.layouts.Regions.{Regions}
 use Rattle.runs.specs.Boxes.{box_cells, box_joined, Within, Disjoint}
 
 -- the radix of the region in the dimension i
 abbrev pub radix_at : Layout → Region → ℕ → ℕ
-radix_at y r i = cond (slice_index_or r.kept i false) (cond (nat_lt (slice_index y.places i) r.lacked) (slice_index y.sizes i) (slice_index y.edges i)) 1
+radix_at y r i = cond (slice_index_or r.kept i false) (cond (nat_lt (slice_index y.places i) r.lacked) (dim (dims_of y.shape) i).size (dim (dims_of y.shape) i).edge) 1
 
 -- how many cells it has in the dimensions before i, and in all
 abbrev pub cells_before : Layout → Region → ℕ → ℕ
@@ -30,29 +31,18 @@ strides_in y r = map (stride_at y r) (range_with_len 0 6)
 
 -- the digit in the dimension i of the first cell of the block c, and where that cell stands
 abbrev pub first_at : Layout → Region → List ℕ → ℕ → ℕ
-first_at y r c i = cond (nat_lt (slice_index y.places i) r.lacked) (slice_index c i * slice_index y.edges i) 0
+first_at y r c i = cond (nat_lt (slice_index y.places i) r.lacked) (slice_index c i * (dim (dims_of y.shape) i).edge) 0
 
 abbrev pub start_of : Layout → Region → List ℕ → ℕ
 start_of y r c = r.base + big 0 ◌+◌ (λ i. first_at y r c i * stride_at y r i) 6
 
--- the digit in the dimension i of the cell x, and where it stands
-abbrev pub digit_at : Layout → Region → List ℕ → ℕ → ℕ
-digit_at y r x i = cond (slice_index_or r.kept i false) (cond (nat_lt (slice_index y.places i) r.lacked) (slice_index x i) (slice_index x i % slice_index y.edges i)) 0
-
-abbrev pub index_of : Layout → Region → List ℕ → ℕ
-index_of y r x = r.base + big 0 ◌+◌ (λ i. digit_at y r x i * stride_at y r i) 6
-
--- the radices multiply within a machine word
-abbrev pub Narrow : Layout → Region → Type 0
-Narrow y r = (i : ℕ) → i ≤ 6 → cells_before y r i < 2 ^ 64
-
 -- the edges of the blocks of the group: a dropped dimension counts once
 abbrev pub block_edges : Layout → Region → List ℕ
-block_edges y r = radix r.kept y.edges
+block_edges y r = radix r.kept (six 1 (edges (dims_of y.shape)))
 
 -- every cell that the digits below ks reach from the first cell of the block c on stands below n
 abbrev pub Inside : Layout → Region → List ℕ → List ℕ → ℕ → Type 0
-Inside y r ks c n = Narrow y r × Within ks (start_of y r c) (strides_in y r) n
+Inside y r ks c n = Within ks (start_of y r c) (strides_in y r) n
 
 -- no cell of the block c of the region r stands where the cells of the region u under it do
 abbrev pub ApartUnder : Layout → Region → Region → List ℕ → Type 0
@@ -70,8 +60,7 @@ block_joined empty op cells y r u c = box_joined empty op cells (block_edges y r
 -- the layout is that of the dimensions ds at their places
 pub record LaidOut (ds : List Dim) (place : ℕ → ℕ) (y : Layout) : Type 0 where
   pub few : length ds ≤ 6
-  pub sized : (i : ℕ) → i < length ds → slice_index y.sizes i ≡ (dim ds i).size
-  pub edged : y.edges ≡ six 1 (edges ds)
+  pub shaped : dims_of y.shape ≡ ds
   pub placed : (i : ℕ) → i < length ds → slice_index y.places i ≡ place i
 
 -- the region is that of the group g, from base on, which lacks a dimension at the place p
@@ -81,6 +70,9 @@ pub record RegionOf (ds : List Dim) (g : Group) (base p : ℕ) (r : Region) : Ty
   pub lacking : r.lacked ≡ p
 
 -- The region of each group, by mask: adds has by mask the dimension that the parent of a group has more; the root's mask is the highest
+
+abbrev pub top : Layout → ℕ
+top y = 2 ^ length (dims_of y.shape) - 1
 
 -- the place of the dimension that the group with mask m lacks
 abbrev pub lacked_at : Layout → List ℕ → ℕ → ℕ → ℕ
@@ -114,6 +106,14 @@ children_joined empty op cells y adds bases root p c (suc k) =
     cond (child_at adds p k)
     (block_joined empty op (children_joined empty op cells y adds bases root p c k) y (region_by y adds bases root p) (region_by y adds bases root (p - 2 ^ k)) c)
     (children_joined empty op cells y adds bases root p c k)
+
+-- The same in a run's regions
+
+abbrev pub region_in : Regions → ℕ → Region
+region_in s m = region_by s.layout s.layout.adds s.bases (top s.layout) m
+
+abbrev pub all_joined : {M : Type 0} → M → (M → M → M) → List M → Regions → ℕ → List ℕ → ℕ → List M
+all_joined empty op cells s p c k = children_joined empty op cells s.layout s.layout.adds s.bases (top s.layout) p c k
 
 -- what a join of the block c of the region r into the region u asks of n cells
 abbrev pub Joinable : Layout → Region → Region → List ℕ → ℕ → Type 0

@@ -45,7 +45,7 @@ planned_emptied empty ds xs = first_emptied empty (need_of ds) xs
 -- Regions: that of the group with mask k begins at its start, and has as many cells as the plan counts for the group
 
 abbrev pub region_start : State → ℕ → ℕ
-region_start s k = slice_index s.bases k
+region_start s k = slice_index s.regions.bases k
 
 abbrev pub region_size : List Dim → ℕ → ℕ
 region_size ds k = mask_cells ds (places_of ds) (adds_of ds) k

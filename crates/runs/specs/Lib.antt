@@ -1,4 +1,5 @@
 pub mod Refusals
+pub mod Nodes
 pub mod Trees
 pub mod Controls
 pub mod Boxes

@@ -20,8 +20,7 @@ pub record Begins (shape : Shape) (a : State) : Type 0 where
 -- what no step changes
 pub record SamePlan (b a : State) : Type 0 where
   pub shape : a.shape ≡ b.shape
-  pub layout : a.layout ≡ b.layout
-  pub bases : a.bases ≡ b.bases
+  pub regions : a.regions ≡ b.regions
   pub tree : a.control.tree ≡ b.control.tree
 
 -- a chunk is passed: t more were taken and s more skipped

@@ -2,19 +2,18 @@
 ghost use Rattle.std.specs.Prelude.{◌≡◌, ◌+◌, ◌<◌, ◌≤◌, ◌++◌, length, drop, ◌≢◌, slice_index, slice_index_or};
 ghost use Rattle.std.proofs.Math.Seq.{paste};
 ghost use Rattle.shapes.specs.Arrays.{product};
-ghost use Rattle.runs.specs.Boxes.{box_cells, box_joined, row_cells, row_joined, emptied, Within, Disjoint, RowWithin, RowsDisjoint, Positive, Leads};
+ghost use Rattle.runs.specs.Boxes.{box_cells, box_joined, row_cells, row_joined, emptied, Within, Disjoint, RowWithin, RowsDisjoint, Leads};
 
-use crate::walks::{Grid, Walk, advance};
+use crate::walks::{Grid, Rows};
 use measures::Measure;
+use shapes::Radices;
 
 // The `len` cells from `base` on become empty; the rest stays.
 pub(crate) fn empty_cells<M: Measure>(cells: &mut [M], base: usize, len: usize)
     requires { base + len ≤ length cells.old }
     ensures { cells.new ≡ emptied M.empty cells.old base len }
 {
-    for i in 0..len {
-        cells[base + i] = M::empty();
-    }
+    sources::empty_cells(&mut cells[base..base + len]);
 }
 
 // The dimension along which rows are taken: the first whose radix is not 1, or else the last.
@@ -22,12 +21,7 @@ fn row_dimension(radices: [u32; 6]) -> usize
     ensures leads { Leads radices result }
     ensures long { result < 5 → slice_index radices result ≢ 1 }
 {
-    for i in 0..5 {
-        if radices[i] != 1 {
-            return i;
-        }
-    }
-    5
+    radices.iter().position(|radix| *radix != 1).unwrap_or(5)
 }
 
 // The cell that stands at an index.
@@ -38,13 +32,7 @@ fn cell_at<M: Measure>(cells: &[M], at: usize) -> M
     cells[at]
 }
 
-// What a cell holds once another is joined into it.
-fn joined<M: Measure>(below: M, above: M) -> M
-    ensures { result ≡ M.op below above }
-{
-    below.join(above)
-}
-
+// A row is its first cell and its stride, which stay two parameters: a struct of them would be made anew for each row.
 // Copies `count` cells in a row to the buffer, from `at` on; the rest of the buffer stays.
 fn write_row<M: Measure>(
     cells: &[M],
@@ -58,43 +46,35 @@ fn write_row<M: Measure>(
     requires room { at + count ≤ length out.old }
     ensures { out.new ≡ paste out.old at (row_cells M.empty cells.now count from stride) count }
 {
-    for l in 0..count {
-        out[at + l] = cell_at(cells, from + l * stride);
+    let row = &mut out[at..at + count];
+    for (l, cell) in row.iter_mut().enumerate() {
+        *cell = cell_at(cells, from + l * stride);
     }
 }
 
-// Writes the `count` cells of a box by offset; the rest of the buffer stays.
-pub(crate) fn write_box<M: Measure>(
-    cells: &[M],
-    radices: [u32; 6],
-    grid: Grid,
-    count: usize,
-    out: &mut [M],
-)
-    requires positive { Positive radices }
-    requires counted { count ≡ product radices }
-    requires room { count ≤ length out.old }
-    requires within { Within radices grid.start grid.strides (length cells.now) }
-    ensures { out.new ≡ box_cells M.empty cells.now radices grid.start grid.strides ++ drop count out.old }
+// Writes the cells of a box by offset; the rest of the buffer stays.
+pub(crate) fn write_box<M: Measure>(cells: &[M], edges: Radices, grid: Grid, out: &mut [M])
+    requires room { product edges.each ≤ length out.old }
+    requires within { Within edges.each grid.start grid.strides (length cells.now) }
+    ensures { out.new ≡ box_cells M.empty cells.now edges.each grid.start grid.strides ++ drop (product edges.each) out.old }
 {
+    let radices = edges.each();
     let along = row_dimension(radices);
-    let mut rows = radices;
-    rows[along] = 1;
-    let still = [0; 6];
-    let mut walk = Walk {
-        at: [0; 6],
-        from: grid.start,
-        to: 0,
-    };
-    let height = count / radices[along] as usize;
-    for r in 0..height {
-        let long = radices[along] as usize;
-        write_row(cells, long, walk.from, grid.strides[along], out, r * long);
-        walk = advance(walk, rows, grid.strides, still);
+    let long = radices[along] as usize;
+    // the second grid goes unused
+    for row in Rows::of(edges, along, grid, grid) {
+        write_row(
+            cells,
+            long,
+            row.from,
+            grid.strides[along],
+            out,
+            row.number * long,
+        );
     }
 }
 
-// Joins each of `count` cells in a row into that of another row.
+// Joins each of `count` cells in a row into that of another row. By index: both rows are of one slice, and strides may be 0.
 fn join_row<M: Measure>(
     cells: &mut [M],
     count: usize,
@@ -111,44 +91,28 @@ fn join_row<M: Measure>(
     for l in 0..count {
         let above = cells[from + l * from_stride];
         let below = cells[to + l * to_stride];
-        cells[to + l * to_stride] = joined(below, above);
+        cells[to + l * to_stride] = below.join(above);
     }
 }
 
-// Joins each of the `count` cells of a box into the cell of another with the same digits.
-pub(crate) fn join_box<M: Measure>(
-    cells: &mut [M],
-    radices: [u32; 6],
-    from: Grid,
-    to: Grid,
-    count: usize,
-)
-    requires positive { Positive radices }
-    requires counted { count ≡ product radices }
-    requires from_within { Within radices from.start from.strides (length cells.old) }
-    requires to_within { Within radices to.start to.strides (length cells.old) }
-    requires apart { Disjoint radices from.start from.strides to.start to.strides }
-    ensures { cells.new ≡ box_joined M.empty M.op cells.old radices from.start from.strides to.start to.strides }
+// Joins each cell of a box into the cell of another with the same digits.
+pub(crate) fn join_box<M: Measure>(cells: &mut [M], edges: Radices, from: Grid, to: Grid)
+    requires from_within { Within edges.each from.start from.strides (length cells.old) }
+    requires to_within { Within edges.each to.start to.strides (length cells.old) }
+    requires apart { Disjoint edges.each from.start from.strides to.start to.strides }
+    ensures { cells.new ≡ box_joined M.empty M.op cells.old edges.each from.start from.strides to.start to.strides }
 {
+    let radices = edges.each();
     let along = row_dimension(radices);
-    let mut rows = radices;
-    rows[along] = 1;
-    let mut walk = Walk {
-        at: [0; 6],
-        from: from.start,
-        to: to.start,
-    };
-    let height = count / radices[along] as usize;
-    for r in 0..height {
-        let long = radices[along] as usize;
+    let long = radices[along] as usize;
+    for row in Rows::of(edges, along, from, to) {
         join_row(
             cells,
             long,
-            walk.from,
+            row.from,
             from.strides[along],
-            walk.to,
+            row.to,
             to.strides[along],
         );
-        walk = advance(walk, rows, from.strides, to.strides);
     }
 }

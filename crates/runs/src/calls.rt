@@ -36,7 +36,7 @@ impl<'a, M: Measure> Run<'a, M> {
         ensures makes { Makes M.empty M.op (dims_of shape) cells.old (moment result) }
     {
         let state = State::new(shape);
-        empty_first(cells, state.need);
+        empty_first(cells, state.plan.need());
         Run { cells, state }
     }
 
@@ -46,10 +46,7 @@ impl<'a, M: Measure> Run<'a, M> {
         ensures same { means S.Shaped.told S.contents source.new ≡ means S.Shaped.told S.contents source.old }
         ensures takes { Takes M.empty M.op (means S.Shaped.told S.contents source.old) (moment self.old) result (moment self.new) }
     {
-        let mut state = self.state;
-        let answer = take_chunk(&mut state, self.cells, source);
-        self.state = state;
-        answer
+        take_chunk(&mut self.state, self.cells, source)
     }
 
     /// Passes over the next chunk if the source can't read it: it counts as empty. Refused with 17, 18, 19, 20, 21.
@@ -58,10 +55,7 @@ impl<'a, M: Measure> Run<'a, M> {
         ensures same { means S.Shaped.told S.contents source.new ≡ means S.Shaped.told S.contents source.old }
         ensures skips { Skips M.empty M.op (means S.Shaped.told S.contents source.old) (moment self.old) result (moment self.new) }
     {
-        let mut state = self.state;
-        let answer = skip_chunk(&mut state, self.cells, source);
-        self.state = state;
-        answer
+        skip_chunk(&mut self.state, self.cells, source)
     }
 
     /// Writes the next block to the buffer, by offset, and answers its mask, its block number and how many cells it has; the rest of the buffer stays.
@@ -70,10 +64,7 @@ impl<'a, M: Measure> Run<'a, M> {
         ensures lender { self.new.cells.ghost_name ≡ self.old.cells.ghost_name }
         ensures hands { Hands M.empty M.op (moment self.old) buffer.old result buffer.new (moment self.new) }
     {
-        let mut state = self.state;
-        let answer = hand_block(&mut state, self.cells, buffer);
-        self.state = state;
-        answer
+        hand_block(&mut self.state, self.cells, buffer)
     }
 
     /// How many chunks were taken and skipped and how many blocks handed out, and whether the run is done.
@@ -91,7 +82,7 @@ impl<'a, M: Measure> Run<'a, M> {
         ensures emptied { self.exit.0.now ≡ planned_emptied M.empty (dims_in (moment self.entry)) self.entry.cells.now }
     {
         let Run { cells, state } = self;
-        empty_first(cells, state.need);
+        empty_first(cells, state.plan.need());
         state.closed()
     }
 }

@@ -6,7 +6,8 @@ ghost use Rattle.runs.specs.Trees.{IsGrown};
 ghost use Rattle.runs.specs.Controls.{IsControlled};
 
 use crate::control::Control;
-use crate::tree::{Tree, block_cells, tree_of};
+use crate::numbering::block_cells;
+use crate::tree::Tree;
 use shapes::{Dim, Shape};
 use std::test::Fail;
 
@@ -26,7 +27,7 @@ fn small_tree() -> Result<Tree, Fail>
     let mut adds = [0; 64];
     adds[0] = 1;
     adds[1] = 1;
-    Ok(tree_of(&shape, [2, 1, 0, 0, 0, 0], adds))
+    Ok(Tree::of(&shape, [2, 1, 0, 0, 0, 0], adds))
 }
 
 // The next block, after a chunk was passed where none waits; none at the end.
@@ -68,7 +69,7 @@ fn small_blocks(rt: HostRuntime) -> Result<(), Fail> {
     assert_eq!(rt; block_cells(&shape, 1), 2);
     assert_eq!(rt; block_cells(&shape, 0), 1);
     let tree = small_tree()?;
-    assert_eq!(rt; tree.coordinates(3, 1), [1, 0, 0, 0, 0, 0]);
-    assert_eq!(rt; tree.coordinates(2, 0), [0, 0, 0, 0, 0, 0]);
+    assert_eq!(rt; tree.block(3, 1).at, [1, 0, 0, 0, 0, 0]);
+    assert_eq!(rt; tree.block(2, 0).at, [0, 0, 0, 0, 0, 0]);
     Ok(())
 }

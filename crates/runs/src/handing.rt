@@ -1,4 +1,6 @@
 // A block handed out: written to the caller's buffer, which changes nothing of the run; then joined into its children's regions, and the run goes on.
+// That the cells are enough is asked of each function that works on them: they are lent as `&mut`, and a ghost field beside one gets no proof.
+// The public call answers a tuple, as it did; inside, a block is a `NextBlock`.
 ghost use Rattle.std.specs.Prelude.{◌≡◌, ◌≤◌, ◌++◌, length, drop};
 ghost use Rattle.shapes.specs.Views.{dims_of};
 ghost use Rattle.runs.specs.Calls.{Hands};
@@ -7,7 +9,6 @@ ghost use Rattle.runs.specs.Holdings.{moment_of};
 ghost use Rattle.runs.specs.Planned.{block_after, block_size, need_of};
 ghost use Rattle.runs.specs.Steps.{IsNextBlock};
 
-use crate::blocks::{join_children, write_block};
 use crate::emptying::empty_over;
 use crate::refusals::RunRefusal;
 use crate::state::State;
@@ -21,7 +22,11 @@ fn write_next<M: Measure>(cells: &[M], state: &State, block: NextBlock, out: &mu
     requires room { block_size (dims_of state.now.shape) (block_after (dims_of state.now.shape) state.now.control.handed) ≤ length out.old }
     ensures { out.new ≡ block_in M.empty cells.now state.now block ++ drop (block_size (dims_of state.now.shape) (block_after (dims_of state.now.shape) state.now.control.handed)) out.old }
 {
-    write_block(cells, state.layout, state.region(block.mask), block.at, out);
+    let region = state.regions.region(block.mask);
+    state
+        .regions
+        .layout
+        .write_block(cells, region, block.at, out);
 }
 
 // Joins the block that is next into the regions of its children, goes on to what comes next, and empties the regions whose release is over.
@@ -30,17 +35,7 @@ fn pass_block<M: Measure>(cells: &mut [M], state: &mut State, block: NextBlock)
     requires next { IsNextBlock state.old block }
     ensures { PassesBlock M.empty M.op (moment_of state.old cells.old) block (moment_of state.new cells.new) }
 {
-    let root = state.root();
-    let bases = state.bases;
-    join_children(
-        cells,
-        state.layout,
-        state.control.tree.adds,
-        bases,
-        root as u32,
-        block.mask as u32,
-        block.at,
-    );
+    state.regions.join_children(cells, block.mask, block.at);
     state.count_handed();
     empty_over(cells, state, block.mask);
 }

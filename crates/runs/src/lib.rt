@@ -13,7 +13,7 @@ mod counts;
 mod emptying;
 mod handing;
 mod layouts;
-mod progress;
+mod numbering;
 mod refusals;
 mod regions;
 mod run;
@@ -23,6 +23,8 @@ mod steps;
 mod surveys;
 mod taking;
 mod tree;
+mod trees;
+mod turns;
 mod walks;
 
 pub use counts::{Closed, Counts};

@@ -14,6 +14,7 @@ pub enum RunRefusal {
         scan: u64,
         chunk: u64,
         entry: u32,
+        // a number, as in the source's refusal, whose fields these are: refusals are public, and a struct would part them
         cause: u8,
     },
     /// 17: the run was made over fewer cells than the plan needs, which is so many.

@@ -1,146 +1,162 @@
-// The cells of a region: how many, where each stands, and the grid of a block.
-ghost use Rattle.std.specs.Prelude.{◌≡◌, ℕ, ◌+◌, ◌*◌, ◌^◌, ◌<◌, Bool, true, false, if◌then◌else◌, slice_index, slice_index_or};
-ghost use Rattle.shapes.specs.Arrays.{product, radix, group};
-ghost use Rattle.runs.specs.Boxes.{Positive};
-ghost use Rattle.runs.specs.Grids.{radix_at, cells_in, stride_at, strides_in, first_at, start_of, digit_at, index_of, Narrow};
+// The regions of a layout: which they are, how many cells each has, and the grid of a block.
+// What a dimension's number, a mask or a plan has to keep to is asked of the functions that take one. A type for a mask would carry its shape, and each parent
+// and each turn of a loop would make one anew; a plan that held its shape would be larger in every copy, for three functions that are handed both.
+ghost use Rattle.std.specs.Prelude.{◌≡◌, ℕ, ◌+◌, ◌-◌, ◌^◌, ◌<◌, ◌≤◌, false, None, Some, if◌then◌else◌, length, slice_index, slice_index_or};
+ghost use Rattle.shapes.specs.Arrays.{group, product, radix, volume};
+ghost use Rattle.shapes.specs.Views.{dims_of};
+ghost use Rattle.plans.specs.Views.{Planned};
+ghost use Rattle.runs.specs.Grids.{Bases, block_edges, cells_below, cells_in, child_at, first_at, lacked_at, radix_at, region_at, start_of, stride_at, strides_in, top};
+ghost use Rattle.runs.specs.Planned.{adds_of, places_of};
 
 use crate::layouts::{Layout, Region};
 use crate::walks::Grid;
+use plans::Plan;
+use shapes::{Radices, Shape, kept_dimensions};
 
-fn radix_of(layout: Layout, region: Region, i: usize) -> usize
-    requires { i < 6 }
-    ensures { result ≡ radix_at layout region i }
-{
-    if !region.kept[i] {
-        1
-    } else if layout.places[i] < region.lacked {
-        layout.sizes[i] as usize
-    } else {
-        layout.edges[i] as usize
+impl Region {
+    // How far apart two neighbours in a dimension stand, with so many cells before it.
+    fn stride(&self, i: usize, before: usize) -> usize
+        requires { i < 6 }
+        ensures { result ≡ (if slice_index_or self.now.kept i false then before else 0) }
+    {
+        if self.kept[i] { before } else { 0 }
     }
 }
 
-fn first_of(layout: Layout, region: Region, block: [u32; 6], i: usize) -> usize
-    requires { i < 6 }
-    ensures { result ≡ first_at layout region block i }
-{
-    if layout.places[i] < region.lacked {
-        block[i] as usize * layout.edges[i] as usize
-    } else {
-        0
+impl Layout {
+    // The layout that a plan of the shape gives.
+    pub(crate) fn of(shape: &Shape, plan: &Plan) -> Layout
+        requires { Planned (dims_of shape.now) plan.now }
+        ensures shaped { result.shape ≡ shape.now }
+        ensures placed { (i : ℕ) → i < length (dims_of result.shape) → slice_index result.places i ≡ places_of (dims_of result.shape) i }
+        ensures adding { (m : ℕ) → m + 1 < 2 ^ length (dims_of result.shape) → slice_index result.adds m ≡ adds_of (dims_of result.shape) (group (length (dims_of result.shape)) m) }
+    {
+        Layout {
+            shape: *shape,
+            places: plan.order(),
+            adds: plan.added(),
+        }
     }
-}
 
-fn stride_of(region: Region, i: usize, before: usize) -> usize
-    requires { i < 6 }
-    ensures { result ≡ (if slice_index_or region.kept i false then before else 0) }
-{
-    if region.kept[i] { before } else { 0 }
-}
-
-// Where the first cell of a block stands, and the strides of its region.
-pub(crate) fn grid(layout: Layout, region: Region, block: [u32; 6]) -> Grid
-    requires narrow { Narrow layout region }
-    requires small { start_of layout region block < 2 ^ 64 }
-    ensures start { result.start ≡ start_of layout region block }
-    ensures strides { result.strides ≡ strides_in layout region }
-{
-    let mut strides = [0; 6];
-    let mut first = region.base;
-    let mut size: usize = 1;
-    for i in 0..6 {
-        let stride = stride_of(region, i, size);
-        strides[i] = stride;
-        first += first_of(layout, region, block, i) * stride;
-        size *= radix_of(layout, region, i);
+    // The mask of the root, the highest.
+    pub(crate) fn root(&self) -> usize
+        ensures mask { result ≡ top self.now }
+        ensures small { result < 64 }
+    {
+        self.shape.group_count() as usize - 1
     }
-    Grid {
-        start: first,
-        strides,
-    }
-}
 
-fn kept_or_one(flags: [bool; 6], all: [u32; 6], i: usize) -> u32
-    requires { i < 6 }
-    ensures { result ≡ (if slice_index_or flags i false then slice_index all i else 1) }
-{
-    if flags[i] { all[i] } else { 1 }
-}
-
-// The edges or the chunk counts of a group: a dropped dimension counts once.
-pub(crate) fn radices(flags: [bool; 6], all: [u32; 6]) -> [u32; 6]
-    ensures { result ≡ radix flags all }
-{
-    let mut ks = [1; 6];
-    for i in 0..6 {
-        ks[i] = kept_or_one(flags, all, i);
+    // The place of the dimension that the group with a mask lacks; 0 for the root.
+    fn lacked_place(&self, mask: usize) -> u32
+        requires { mask ≤ top self.now }
+        ensures { result ≡ lacked_at self.now self.now.adds (top self.now) mask }
+    {
+        if mask < self.root() {
+            self.places[self.adds[mask] as usize]
+        } else {
+            0
+        }
     }
-    ks
-}
 
-// How many cells a box with these radices has.
-pub(crate) fn box_len(radices: [u32; 6]) -> usize
-    requires positive { Positive radices }
-    requires small { product radices < 2 ^ 64 }
-    ensures { result ≡ product radices }
-{
-    let mut v: usize = 1;
-    for i in 0..6 {
-        v *= radices[i] as usize;
+    // The region of the group with a mask, from `base` on.
+    pub(crate) fn region(&self, mask: usize, base: usize) -> Region
+        requires { mask ≤ top self.now }
+        ensures { result ≡ region_at self.now self.now.adds (top self.now) mask base }
+    {
+        Region {
+            base,
+            kept: kept_dimensions(mask as u32),
+            lacked: self.lacked_place(mask),
+        }
     }
-    v
-}
 
-// How many cells a region has.
-pub(crate) fn region_len(layout: Layout, region: Region) -> usize
-    requires { Narrow layout region }
-    ensures { result ≡ cells_in layout region }
-{
-    let mut size: usize = 1;
-    for i in 0..6 {
-        size *= radix_of(layout, region, i);
+    // The mask of the child of a group that lacks dimension e: one whose parent adds it.
+    pub(crate) fn child(&self, mask: usize, e: usize) -> Option<usize>
+        requires { (e < 6) × (mask < 64) }
+        ensures { result ≡ (if child_at self.now.adds mask e then Some (mask - 2 ^ e) else None) }
+    {
+        if !kept_dimensions(mask as u32)[e] {
+            return None;
+        }
+        let child = mask - (1 << e);
+        (self.adds[child] as usize == e).then_some(child)
     }
-    size
-}
 
-fn digit_of(layout: Layout, region: Region, x: [u32; 6], i: usize) -> usize
-    requires { (i < 6) × (0 < slice_index layout.edges i) }
-    ensures { result ≡ digit_at layout region x i }
-{
-    if !region.kept[i] {
-        0
-    } else if layout.places[i] < region.lacked {
-        x[i] as usize
-    } else {
-        (x[i] % layout.edges[i]) as usize
+    // Where the region of each group begins, by mask: the root's at 0, and those of the other groups behind it, one after the other.
+    pub(crate) fn bases(&self) -> [usize; 64]
+        ensures { Bases self.now self.now.adds (top self.now) (volume (dims_of self.now.shape)) result }
+    {
+        let mut bases = [0; 64];
+        let mut next = self.shape.chunk_cells() as usize;
+        for mask in 0..self.root() {
+            bases[mask] = next;
+            next += self.region_len(self.region(mask, 0));
+        }
+        bases
     }
-}
 
-// Where a cell stands.
-pub(crate) fn cell_index(layout: Layout, region: Region, x: [u32; 6]) -> usize
-    requires positive { (i : ℕ) → i < 6 → 0 < slice_index layout.edges i }
-    requires narrow { Narrow layout region }
-    requires small { index_of layout region x < 2 ^ 64 }
-    ensures { result ≡ index_of layout region x }
-{
-    let mut at = region.base;
-    let mut size: usize = 1;
-    for i in 0..6 {
-        at += digit_of(layout, region, x, i) * stride_of(region, i, size);
-        size *= radix_of(layout, region, i);
+    // The edges of the blocks of a region's group: a dropped dimension counts once.
+    pub(crate) fn block_edges(&self, region: Region) -> Radices
+        ensures { result.each ≡ block_edges self.now region }
+    {
+        self.shape.edge_radices().kept(region.kept)
     }
-    at
-}
 
-// The dimensions that the group with a mask keeps.
-pub(crate) fn kept_of(mask: u32) -> [bool; 6]
-    ensures { result ≡ group 6 mask }
-{
-    let mut flags = [false; 6];
-    let mut rest = mask;
-    for i in 0..6 {
-        flags[i] = rest % 2 == 1;
-        rest /= 2;
+    // How many cells of a region lie along a dimension: where it is placed before the one that the region lacks, all of its size.
+    fn radix(&self, region: Region, i: usize) -> usize
+        requires { i < 6 }
+        ensures { result ≡ radix_at self.now region i }
+    {
+        let dim = self.shape.dims()[i];
+        if !region.kept[i] {
+            1
+        } else if self.places[i] < region.lacked {
+            dim.size as usize
+        } else {
+            dim.edge as usize
+        }
     }
-    flags
+
+    // The digit there of the first cell of a block.
+    fn first(&self, region: Region, block: [u32; 6], i: usize) -> usize
+        requires { i < 6 }
+        ensures { result ≡ first_at self.now region block i }
+    {
+        if self.places[i] < region.lacked {
+            block[i] as usize * self.shape.dims()[i].edge as usize
+        } else {
+            0
+        }
+    }
+
+    // Where the first cell of a block stands, and the strides of its region.
+    pub(crate) fn grid(&self, region: Region, block: [u32; 6]) -> Grid
+        requires { start_of self.now region block < 2 ^ 64 }
+        ensures start { result.start ≡ start_of self.now region block }
+        ensures strides { result.strides ≡ strides_in self.now region }
+    {
+        // By number: a zip of the shape's dimensions, the places, the flags and the block is no plainer.
+        let mut strides = [0; 6];
+        let mut start = region.base;
+        let mut size: usize = 1;
+        for i in 0..6 {
+            let stride = region.stride(i, size);
+            strides[i] = stride;
+            start += self.first(region, block, i) * stride;
+            size *= self.radix(region, i);
+        }
+        Grid { start, strides }
+    }
+
+    // How many cells a region has.
+    pub(crate) fn region_len(&self, region: Region) -> usize
+        ensures { result ≡ cells_in self.now region }
+    {
+        // By number, as in `grid`, which works the same product out beside the strides.
+        let mut size: usize = 1;
+        for i in 0..6 {
+            size *= self.radix(region, i);
+        }
+        size
+    }
 }

@@ -1,22 +1,21 @@
 // How the state of a run goes on.
-ghost use Rattle.std.specs.Prelude.{◌≡◌, ℕ, ◌+◌, ◌^◌, ◌<◌, true, false, length, is_some, Some, MatchResult, slice_index};
+ghost use Rattle.std.specs.Prelude.{◌≡◌, ℕ, ◌+◌, ◌^◌, ◌<◌, true, false, length, is_some, Some, MatchResult};
 ghost use Rattle.shapes.specs.Arrays.{total_chunks};
 ghost use Rattle.shapes.specs.Views.{dims_of};
 ghost use Rattle.plans.specs.Views.{Planned};
 ghost use Rattle.runs.specs.Answers.{close_answer, count_answer, done, hand_name, next_chunk, too_few, waits};
-ghost use Rattle.runs.specs.Grids.{LaidOut};
 ghost use Rattle.runs.specs.Holdings.{state_view};
-ghost use Rattle.runs.specs.Layouts.{mask_base};
 ghost use Rattle.runs.specs.Planned.{adds_of, block_after, need_of, places_of, scanned_storage};
 ghost use Rattle.runs.specs.Steps.{Begins, BlockToHand, HandsOn, IsNextBlock, PassesOn, SamePlan};
 ghost use Rattle.runs.specs.Trees.{Grown};
 
 use crate::control::Control;
 use crate::counts::{Closed, Counts};
-use crate::layouts::{Layout, base_table, lay_out};
+use crate::layouts::Regions;
+use crate::numbering::{Block, block_cells};
 use crate::refusals::RunRefusal;
 use crate::state::State;
-use crate::tree::{Tree, block_cells, group_count, tree_of};
+use crate::tree::Tree;
 use plans::{Plan, TooFewCells};
 use shapes::Shape;
 
@@ -32,34 +31,9 @@ pub(crate) struct NextBlock {
 // The tree of the plan's order and parents.
 fn plan_tree(shape: &Shape, plan: &Plan) -> Tree
     requires { Planned (dims_of shape.now) plan.now }
-    ensures grown { Grown (dims_of shape.now) (places_of (dims_of shape.now)) (adds_of (dims_of shape.now)) result }
-    ensures long { length result.adds ≡ 64 }
+    ensures { Grown (dims_of shape.now) (places_of (dims_of shape.now)) (adds_of (dims_of shape.now)) result }
 {
-    tree_of(shape, plan.order(), plan.added())
-}
-
-// The layout of the plan's order.
-fn plan_layout(shape: &Shape, plan: &Plan) -> Layout
-    requires { Planned (dims_of shape.now) plan.now }
-    ensures { LaidOut (dims_of shape.now) (places_of (dims_of shape.now)) result }
-{
-    lay_out(shape, plan.order())
-}
-
-// Where the regions begin in a layout of the plan's order.
-fn plan_bases(shape: &Shape, plan: &Plan, layout: Layout) -> [usize; 64]
-    requires planned { Planned (dims_of shape.now) plan.now }
-    requires laid { LaidOut (dims_of shape.now) (places_of (dims_of shape.now)) layout }
-    ensures starts { (m : ℕ) → m < 2 ^ length (dims_of shape.now) → slice_index result m ≡ mask_base (dims_of shape.now) (places_of (dims_of shape.now)) (adds_of (dims_of shape.now)) m }
-    ensures long { length result ≡ 64 }
-{
-    let root = group_count(shape.dimensions()) - 1;
-    base_table(
-        layout,
-        plan.added(),
-        root as u32,
-        shape.chunk_cells() as usize,
-    )
+    Tree::of(shape, plan.order(), plan.added())
 }
 
 impl State {
@@ -68,12 +42,10 @@ impl State {
         ensures { Begins shape result }
     {
         let plan = Plan::of(&shape);
-        let layout = plan_layout(&shape, &plan);
         State {
             shape,
-            layout,
-            bases: plan_bases(&shape, &plan, layout),
-            need: plan.need(),
+            plan,
+            regions: Regions::of(&shape, &plan),
             taken: 0,
             skipped: 0,
             control: Control::start(plan_tree(&shape, &plan)),
@@ -98,19 +70,15 @@ impl State {
     fn check_lent(&self, lent: usize) -> Result<(), TooFewCells>
         ensures { MatchResult result (λ _. too_few (state_view self.now lent) ≡ false) (λ e. (too_few (state_view self.now lent) ≡ true) × (e.need ≡ need_of (dims_of self.now.shape))) }
     {
-        if (lent as u64) < self.need {
-            return Err(TooFewCells { need: self.need });
-        }
-        Ok(())
+        self.plan.check(lent)
     }
 
     // The storage number of the chunk whose scan number is the number of chunks passed.
     fn next_storage(&self) -> u64
         ensures { result ≡ scanned_storage (dims_of self.now.shape) (self.now.taken + self.now.skipped) }
     {
-        let root = group_count(self.control.tree.n) - 1;
-        let at = self.control.tree.coordinates(root, self.control.passed);
-        self.control.tree.block_number(root, at)
+        let tree = &self.control.tree;
+        tree.block(tree.root() as u32, self.control.passed).number
     }
 
     // The storage number of the chunk that is next, with so many cells lent, over a source of this shape; or 17, 18, 19, 20.
@@ -130,35 +98,24 @@ impl State {
         Ok(self.next_storage())
     }
 
-    // One more chunk is passed; so many are taken and so many skipped then.
-    fn pass(&mut self, taken: u64, skipped: u64)
-        requires idle { (lent : ℕ) → waits (state_view self.old lent) ≡ false }
-        requires left { self.old.taken + self.old.skipped < total_chunks (dims_of self.old.shape) }
-        requires more { taken + skipped ≡ self.old.taken + self.old.skipped + 1 }
-        ensures plan { SamePlan self.old self.new }
-        ensures counts { (self.new.taken ≡ taken) × (self.new.skipped ≡ skipped) × (self.new.control.handed ≡ self.old.control.handed) }
-    {
-        self.control.pass();
-        self.taken = taken;
-        self.skipped = skipped;
-    }
-
     // The chunk that is next was taken: one more is passed.
     pub(crate) fn count_taken(&mut self)
         requires idle { (lent : ℕ) → waits (state_view self.old lent) ≡ false }
         requires left { self.old.taken + self.old.skipped < total_chunks (dims_of self.old.shape) }
         ensures { PassesOn 1 0 self.old self.new }
     {
-        self.pass(self.taken + 1, self.skipped);
+        self.control.pass();
+        self.taken += 1;
     }
 
-    // The chunk that is next was skipped: one more is passed.
+    // The chunk that is next was skipped: one more is passed. (One method for both would take a flag, and say less at its calls.)
     pub(crate) fn count_skipped(&mut self)
         requires idle { (lent : ℕ) → waits (state_view self.old lent) ≡ false }
         requires left { self.old.taken + self.old.skipped < total_chunks (dims_of self.old.shape) }
         ensures { PassesOn 0 1 self.old self.new }
     {
-        self.pass(self.taken, self.skipped + 1);
+        self.control.pass();
+        self.skipped += 1;
     }
 
     // The block that is next was handed out.
@@ -175,12 +132,12 @@ impl State {
         ensures next { IsNextBlock self.now result }
         ensures name { (result.mask, result.number, result.cells) ≡ hand_name (dims_of self.now.shape) (block_after (dims_of self.now.shape) self.now.control.handed) }
     {
-        let at = self.control.next_at(mask);
+        let Block { at, number } = self.control.next_at(mask);
         NextBlock {
             mask,
             at,
-            number: self.control.tree.block_number(mask, at),
-            cells: block_cells(&self.shape, mask) as usize,
+            number,
+            cells: block_cells(&self.shape, mask as u32) as usize,
         }
     }
 
@@ -211,7 +168,7 @@ impl State {
         }
     }
 
-    // What close answers.
+    // What close answers: the counts without `done`, which a `From<Counts>` would work out only to drop it.
     pub(crate) fn closed(&self) -> Closed
         ensures { (lent : ℕ) → result ≡ close_answer (state_view self.now lent) }
     {

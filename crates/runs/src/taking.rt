@@ -12,6 +12,7 @@ use measures::Measure;
 use sources::{Shaped, Source, SourceRefusal};
 
 // Fetches the chunk that is next into the root's region. Where it can't be read, the region stays empty.
+// The match stays: its refusal tells a scan number, which no `From` of the source's knows, and a `map_err` would hold the last two arms just the same.
 pub(crate) fn take_chunk<M: Measure, S: Source<M>>(
     state: &mut State,
     cells: &mut [M],

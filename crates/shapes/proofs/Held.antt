@@ -1,19 +1,27 @@
 -- What a shape holds, dimension by dimension.
-use Rattle.std.proofs.Common.{◌≡◌, ℕ, zero, suc, ◌+◌, ◌/◌, ◌%◌, ◌^◌, ◌<◌, ◌≤◌, List, [], ◌∷◌, length, get_or, take, set, sym, refl, ap, ◌∙◌, subst, arith}
+use Rattle.std.proofs.Common.{◌≡◌, ℕ, zero, suc, ◌+◌, ◌/◌, ◌%◌, ◌^◌, ◌<◌, ◌≤◌, List, [], ◌∷◌, map, length, get_or, take, set, sym, refl, ap, ◌∙◌, ⊎_elim, subst, arith}
 use Rattle.std.specs.List.{AllByRecursion}
-use Rattle.std.proofs.lemmas.List.{length-take, get_or-take, get_or_default, get_or-map, take_all}
+use Rattle.std.proofs.lemmas.List.{ext_get_or, length-take, get_or-take, get_or_default, get_or_past, get_or-map, take_all}
+use Rattle.std.proofs.lemmas.Bool.{cases_lt}
+use Rattle.std.proofs.lemmas.Nat.{le-div}
 use Rattle.std.proofs.ByRecursion.{All-from_get_or}
 use Rattle.shapes.specs.declared.dims.Dim.{Dim}
 use Rattle.shapes.specs.declared.shape.Shape.{Shape}
 use Rattle.shapes.specs.Arrays.{counts, edges, none_dim, dim, chunk_of, local_of, chunks, total_chunks}
 use Rattle.shapes.specs.Limits.{Fit, Limits}
 use Rattle.shapes.specs.Views.{dims_of, six}
-use Rattle.shapes.proofs.Sixes.{six_more}
+use Rattle.shapes.proofs.Sixes.{length-six, six_at, six_more, six_taken, map-six}
+use Rattle.shapes.proofs.Sizing.{dim_ext}
+use Rattle.shapes.proofs.Limited.{six_fits}
 use Rattle.shapes.proofs.Products.{total_le}
 
 module _ (s : Shape) where
   pub dims_long : length (dims_of s) ≡ s.n
   dims_long = let a = s.six in let b = s.few.1 in length-take s.n s.dims ∙ omega arith
+
+  -- the six dimensions are those of the shape, filled up
+  pub held_six : s.dims ≡ six none_dim (dims_of s)
+  held_six = six_taken none_dim s.dims s.n s.six (λ i h. dim_ext (get_or s.dims i none_dim) none_dim (s.past i h).0 (s.past i h).1)
 
   pub dims_few : length (dims_of s) ≤ 6
   dims_few = let a = dims_long in let b = s.few.1 in omega arith
@@ -86,3 +94,21 @@ module _ (s : Shape) (x : ℕ) (xs : List ℕ) (long : length xs ≡ length (dim
 
   pub held_all : (ys : List ℕ) (i : ℕ) → s.n ≤ i → ys ≡ six x (take i xs) → ys ≡ six x xs
   held_all ys i l e = let n = dims_long s in fills_all x xs few_held ys i (omega arith) e
+
+-- six numbers that are those of a list for each dimension of a shape, and 0 past the last
+pub held_by : (s : Shape) (xs ys : List ℕ) → length ys ≡ 6 → length xs ≡ length (dims_of s) → ((i : ℕ) → i < s.n → get_or ys i 0 ≡ get_or xs i 0) → ((i : ℕ) → s.n ≤ i → get_or ys i 0 ≡ 0) → ys ≡ six 0 xs
+held_by s xs ys six_long long below past =
+    ext_get_or 0 ys (six 0 xs) (six_long ∙ sym (length-six 0 xs)) (λ i l.
+    let i6 : i < 6 = omega arith in
+    ⊎_elim (λ h. below i h ∙ sym (six_at 0 xs i i6)) (λ h. past i h ∙ sym (six_at 0 xs i i6 ∙ get_or_past xs i 0 (omega (arith, long, dims_long s)))) (cases_lt i s.n))
+
+-- six numbers, each from 1 up
+pub held_some : (s : Shape) (f : Dim → ℕ) → f none_dim ≡ 1 → ((d : Dim) → Fit d → 1 ≤ f d) → (i : ℕ) → i < 6 → 1 ≤ get_or (six 1 (map f (dims_of s))) i 0
+held_some s f one h i l =
+    let ds = dims_of s in
+    let e : get_or (six 1 (map f ds)) i 0 ≡ f (get_or (six none_dim ds) i none_dim) =
+    ap (λ x. get_or (six x (map f ds)) i 0) (sym one) ∙ (ap (λ xs. get_or xs i 0) (sym (map-six f none_dim ds)) ∙ get_or-map f (six none_dim ds) i none_dim 0 (omega (arith, length-six none_dim ds))) in
+    omega (arith, e, h (get_or (six none_dim ds) i none_dim) (six_fits ds (all_fit s) i l))
+
+pub count_some : (d : Dim) → Fit d → 1 ≤ chunks d
+count_some d f = let p = f.2 in let q = f.3 in le-div 1 d.size d.edge p (omega arith)

@@ -1,8 +1,9 @@
 -- Digits that lie inside their radices, digit by digit, and filled up to six.
-use Rattle.std.proofs.Common.{◌≡◌, ℕ, zero, suc, ◌+◌, ◌-◌, ◌*◌, ◌<◌, ◌≤◌, true, false, ◌&&◌, eqb, ltb, List, [], ◌∷◌, ◌++◌, length, get_or, take, drop, replicate, Some, None, sym, refl, ap, ◌∙◌, arith}
-use Rattle.std.specs.List.{AllByRecursion}
+use Rattle.std.proofs.Common.{◌≡◌, ℕ, zero, suc, ◌+◌, ◌-◌, ◌*◌, ◌<◌, ◌≤◌, Bool, true, false, cond, ◌&&◌, eqb, ltb, List, [], ◌∷◌, ◌++◌, length, get_or, take, drop, replicate, Option, Some, None, sym, refl, ap, ◌∙◌, arith}
+use Rattle.std.specs.List.{AllByRecursion, zip, list_all}
 use Rattle.std.proofs.lemmas.List.{drop_more, take-append-drop, map-id}
-use Rattle.std.proofs.lemmas.Bool.{and_parts, eqb-true, ltb-true, cond-true, cond-false}
+use Rattle.std.proofs.lemmas.Bool.{and_parts, eqb-true, ltb-true}
+use Rattle.std.proofs.lemmas.Option.{none-some}
 use Rattle.std.proofs.lemmas.Bool.Decides.{nat_tests}
 use Rattle.std.proofs.ByRecursion.{All-take}
 use Rattle.std.proofs.lemmas.Nat.{mul-le}
@@ -10,9 +11,6 @@ use Rattle.shapes.specs.Arrays.{product, number, inside, numbered, Below}
 use Rattle.shapes.specs.Views.{six}
 use Rattle.shapes.proofs.Numbering.{number_below}
 use Rattle.shapes.proofs.Products.{product-append, product_positive, product-six}
-
-pub inside_at : (ks xs : List ℕ) (i : ℕ) → i < length ks → i < length xs → inside (drop i ks) (drop i xs) ≡ (ltb (get_or xs i 0) (get_or ks i 0) && inside (drop (i + 1) ks) (drop (i + 1) xs))
-inside_at ks xs i p q = ap (λ ys. inside ys (drop i xs)) (drop_more ks i 0 p) ∙ ap (inside (get_or ks i 0 ∷ drop (i + 1) ks)) (drop_more xs i 0 q)
 
 pub number_at : (ks xs : List ℕ) (i : ℕ) → i < length ks → i < length xs → number (drop i ks) (drop i xs) ≡ get_or xs i 0 + get_or ks i 0 * number (drop (i + 1) ks) (drop (i + 1) xs)
 number_at ks xs i p q = ap (λ ys. number ys (drop i xs)) (drop_more ks i 0 p) ∙ ap (number (get_or ks i 0 ∷ drop (i + 1) ks)) (drop_more xs i 0 q)
@@ -84,16 +82,24 @@ filled_number (k ∷ ks) (suc n) m (x ∷ xs) l h = ap (λ s. x + k * s) (filled
 pub number-six : (ks xs : List ℕ) → length ks ≤ 6 → inside ks xs ≡ true → number (six 1 ks) xs ≡ number ks xs
 number-six ks xs few h = filled_number ks 6 6 xs few h
 
--- a check of the six digits, then their number
-pub numbered_none : (ks rs xs : List ℕ) → rs ≡ six 1 ks → length ks ≤ 6 → length xs ≡ 6 → inside rs xs ≡ false → None ≡ numbered ks xs
-numbered_none ks rs xs e few l h =
-    let f : inside ks xs ≡ false = sym (ap (λ ys. inside ys xs) e ∙ inside_six ks xs few l) ∙ h in
-    sym (cond-false (inside ks xs) (Some (number ks xs)) None f)
+-- what fills radices up to six leaves the number of six digits
+pub numbered-six : (ks xs : List ℕ) → length ks ≤ 6 → length xs ≡ 6 → numbered (six 1 ks) xs ≡ numbered ks xs
+numbered-six ks xs few l = by_case (inside ks xs) refl where
+  by_case : (b : Bool) → inside ks xs ≡ b → numbered (six 1 ks) xs ≡ numbered ks xs
+  by_case true e = ap (λ b. cond b (Some (number (six 1 ks) xs)) None) (inside_six ks xs few l) ∙ (ap (λ b. cond b (Some (number (six 1 ks) xs)) None) e ∙ (ap Some (number-six ks xs few e) ∙ sym (ap (λ b. cond b (Some (number ks xs)) None) e)))
+  by_case false e = ap (λ b. cond b (Some (number (six 1 ks) xs)) None) (inside_six ks xs few l) ∙ (ap (λ b. cond b (Some (number (six 1 ks) xs)) None) e ∙ sym (ap (λ b. cond b (Some (number ks xs)) None) e))
 
-pub numbered_some : (ks rs xs : List ℕ) (s : ℕ) → rs ≡ six 1 ks → length ks ≤ 6 → length xs ≡ 6 → inside rs xs ≡ true → s ≡ number rs xs → Some s ≡ numbered ks xs
-numbered_some ks rs xs s e few l h is =
-    let f : inside ks xs ≡ true = sym (ap (λ ys. inside ys xs) e ∙ inside_six ks xs few l) ∙ h in
-    ap Some (is ∙ (ap (λ ys. number ys xs) e ∙ number-six ks xs few f)) ∙ sym (cond-true (inside ks xs) (Some (number ks xs)) None f)
+abbrev told : ℕ → Option ℕ → ℕ
+told d (Some x) = x
+told d None = d
+
+pub numbered_below : (ks xs : List ℕ) (s : ℕ) → length ks ≡ length xs → numbered ks xs ≡ Some s → s < product ks
+numbered_below ks xs s l e = by_case (inside ks xs) refl where
+  by_case : (b : Bool) → inside ks xs ≡ b → s < product ks
+  by_case true h =
+      let is : s ≡ number ks xs = ap (told s) (sym e ∙ ap (λ b. cond b (Some (number ks xs)) None) h) in
+      omega (arith, is, rest_below ks xs 0 l h)
+  by_case false h = absurd (none-some s (sym (ap (λ b. cond b (Some (number ks xs)) None) h) ∙ e))
 
 -- one digit more, from the slowest on
 pub number_back : (ks xs : List ℕ) (i s : ℕ) → 0 < i → i ≤ length ks → i ≤ length xs → s ≡ number (drop i ks) (drop i xs) → get_or xs (i - 1) 0 + get_or ks (i - 1) 0 * s ≡ number (drop (i - 1) ks) (drop (i - 1) xs)
@@ -108,3 +114,10 @@ radices-product ks rs e few = ap product e ∙ (sym (ap product (map-id (six 1 k
 
 pub number_back_below : (ks xs : List ℕ) (i s : ℕ) → 0 < i → i ≤ length ks → length ks ≡ length xs → inside ks xs ≡ true → s ≡ number (drop i ks) (drop i xs) → get_or xs (i - 1) 0 + get_or ks (i - 1) 0 * s < product ks
 number_back_below ks xs i s some p l h e = omega (arith, number_back ks xs i s some p (omega arith) e, rest_below ks xs (i - 1) l h)
+
+-- digit by digit, each beside its radix
+pub all_zip_inside : (ks xs : List ℕ) → length ks ≡ length xs → list_all (λ p. ltb p.0 p.1) (zip xs ks) ≡ inside ks xs
+all_zip_inside [] [] l = refl
+all_zip_inside [] (x ∷ xs) l = absurd (omega arith)
+all_zip_inside (k ∷ ks) [] l = absurd (omega arith)
+all_zip_inside (k ∷ ks) (x ∷ xs) l = ap (λ b. ltb x k && b) (all_zip_inside ks xs (omega arith))

@@ -1,6 +1,8 @@
 pub mod Sizing
+pub mod Made
 pub mod Sixes
 pub mod Products
+pub mod Radixes
 pub mod Limited
 pub mod Making
 pub mod Held

@@ -1,5 +1,5 @@
 -- Lists that are filled up to six.
-use Rattle.std.proofs.Common.{◌≡◌, ℕ, ◌+◌, ◌-◌, ◌<◌, ◌≤◌, List, [], ◌∷◌, ◌++◌, map, length, get_or, take, set, replicate, sym, refl, ◌∙◌, ⊎_elim, arith}
+use Rattle.std.proofs.Common.{◌≡◌, ℕ, zero, suc, ◌+◌, ◌-◌, ◌<◌, ◌≤◌, List, [], ◌∷◌, ◌++◌, map, length, get_or, take, drop, set, replicate, sym, refl, ap, ◌∙◌, ⊎_elim, arith}
 use Rattle.std.proofs.lemmas.List.{ext_get_or, length-take, length-append, length-replicate, get_or-take, get_or_append_left, get_or-append_right, get_or-replicate, get_or_past, length-set, get_or-set_same, get_or-set_other, get_or_default, take-take, take_at}
 use Rattle.std.proofs.lemmas.Bool.{cases_lt, cases_eq}
 use Rattle.shapes.specs.Views.{six}
@@ -74,3 +74,31 @@ six_more x d xs i l few =
 -- the first elements are the list's own
 pub take-six : {X : Type 0} (x : X) (xs : List X) (n : ℕ) → n ≡ length xs → n ≤ 6 → take n (six x xs) ≡ xs
 take-six x xs n e few = take-take n 6 (xs ++ replicate 6 x) few ∙ take_at xs (replicate 6 x) n (sym e)
+
+-- a list put over the front of six
+front_of_same : {X : Type 0} (x : X) (n m : ℕ) → n ≤ m → replicate n x ≡ take n (replicate m x)
+front_of_same x zero m l = refl
+front_of_same x (suc n) zero l = absurd (omega arith)
+front_of_same x (suc n) (suc m) l = ap (λ ys. x ∷ ys) (front_of_same x n m (omega arith))
+
+pasted : {X : Type 0} (x : X) (xs : List X) (n m : ℕ) → length xs ≤ n → n ≤ m → xs ++ drop (length xs) (replicate n x) ≡ take n (xs ++ replicate m x)
+pasted x [] n m l h = front_of_same x n m h
+pasted x (y ∷ xs) zero m l h = absurd (omega arith)
+pasted x (y ∷ xs) (suc n) m l h = ap (λ ys. y ∷ ys) (pasted x xs n m (omega arith) (omega arith))
+
+pub six_pasted : {X : Type 0} (x : X) (xs : List X) → length xs ≤ 6 → xs ++ drop (length xs) (replicate 6 x) ≡ six x xs
+six_pasted x xs l = pasted x xs 6 6 l (omega arith)
+
+-- a function of each of six
+map_front : {X Y : Type 0} (f : X → Y) (x : X) (n m : ℕ) → map f (take n (replicate m x)) ≡ take n (replicate m (f x))
+map_front f x zero m = refl
+map_front f x (suc n) zero = refl
+map_front f x (suc n) (suc m) = ap (λ ys. f x ∷ ys) (map_front f x n m)
+
+map_filled : {X Y : Type 0} (f : X → Y) (x : X) (xs : List X) (n m : ℕ) → map f (take n (xs ++ replicate m x)) ≡ take n (map f xs ++ replicate m (f x))
+map_filled f x [] n m = map_front f x n m
+map_filled f x (y ∷ xs) zero m = refl
+map_filled f x (y ∷ xs) (suc n) m = ap (λ ys. f y ∷ ys) (map_filled f x xs n m)
+
+pub map-six : {X Y : Type 0} (f : X → Y) (x : X) (xs : List X) → map f (six x xs) ≡ six (f x) (map f xs)
+map-six f x xs = map_filled f x xs 6 6

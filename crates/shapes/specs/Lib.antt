@@ -3,3 +3,4 @@ pub mod Limits
 pub mod Views
 pub mod Refusals
 pub mod Laws
+pub mod Texts

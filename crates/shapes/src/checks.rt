@@ -31,8 +31,8 @@ fn check_dim(i: usize, d: Dim) -> Result<(), ShapeRefusal>
 fn check_dims(dims: &[Dim]) -> Result<(), ShapeRefusal>
     ensures { MatchResult result (λ _. dims_fault 0 dims.now ≡ None) (λ e. dims_fault 0 dims.now ≡ Some (shape_refusal e)) }
 {
-    for i in 0..dims.len() {
-        check_dim(i, dims[i])?;
+    for (i, d) in dims.iter().enumerate() {
+        check_dim(i, *d)?;
     }
     Ok(())
 }
@@ -43,26 +43,8 @@ fn filled_up(dims: &[Dim]) -> [Dim; 6]
     ensures { result ≡ six none_dim dims.now }
 {
     let mut all = [Dim { size: 1, edge: 1 }; 6];
-    for i in 0..dims.len() {
-        all[i] = dims[i];
-    }
+    all[..dims.len()].copy_from_slice(dims);
     all
-}
-
-fn six_sizes(d: [Dim; 6]) -> [u32; 6]
-    ensures { result ≡ map (λ (x : Dim). x.size) d }
-{
-    [
-        d[0].size, d[1].size, d[2].size, d[3].size, d[4].size, d[5].size,
-    ]
-}
-
-fn six_edges(d: [Dim; 6]) -> [u32; 6]
-    ensures { result ≡ map (λ (x : Dim). x.edge) d }
-{
-    [
-        d[0].edge, d[1].edge, d[2].edge, d[3].edge, d[4].edge, d[5].edge,
-    ]
 }
 
 // The product of the factors, or none where it passes the limit. It leaves at the limit, so that no product on the way passes 2^48.
@@ -73,8 +55,8 @@ fn product_within(factors: [u32; 6], limit: u64) -> Option<u64>
     ensures { MatchOption result (limit < product factors) (λ p. (p ≡ product factors) × (p ≤ limit)) }
 {
     let mut p: u64 = 1;
-    for i in 0..6 {
-        p *= factors[i] as u64;
+    for factor in factors {
+        p *= u64::from(factor);
         if p > limit {
             return None;
         }
@@ -94,10 +76,10 @@ impl Shape {
         }
         check_dims(dims)?;
         let all = filled_up(dims);
-        let Some(cells) = product_within(six_edges(all), CHUNK_LIMIT) else {
+        let Some(cells) = product_within(all.map(|d| d.edge), CHUNK_LIMIT) else {
             return Err(ShapeRefusal::Volume);
         };
-        let Some(extent) = product_within(six_sizes(all), ARRAY_LIMIT) else {
+        let Some(extent) = product_within(all.map(|d| d.size), ARRAY_LIMIT) else {
             return Err(ShapeRefusal::Extent);
         };
         Ok(Shape {

@@ -3,16 +3,10 @@ ghost use Rattle.std.specs.Prelude.{◌≡◌, Decides};
 ghost use Rattle.std.specs.Cmp.{partial_equiv_from_equiv};
 ghost use Rattle.shapes.specs.Views.{dims_of, same_shape, same_shape_equiv};
 
-use crate::dims::Dim;
 use crate::shape::Shape;
 
-fn same_dim(a: Dim, b: Dim) -> bool
-    ensures { Decides result (a ≡ b) }
-{
-    a.size == b.size && a.edge == b.edge
-}
-
 /// Shapes are equal exactly when they have the same dimensions.
+// By hand: a derive would compare what is worked out of the dimensions too, and would bear no clause of its own.
 impl PartialEq for Shape {
     ghost eq = { same_shape };
 
@@ -22,15 +16,7 @@ impl PartialEq for Shape {
         ensures value { result ≡ same_shape self.now other.now }
         ensures decides { Decides result (dims_of self.now ≡ dims_of other.now) }
     {
-        if self.n != other.n {
-            return false;
-        }
-        for i in 0..self.n {
-            if !same_dim(self.dims[i], other.dims[i]) {
-                return false;
-            }
-        }
-        true
+        self.n == other.n && self.dims == other.dims
     }
 }
 

@@ -1,29 +1,25 @@
 // Groups of kept dimensions, and their masks.
-ghost use Rattle.std.specs.Prelude.{◌≡◌, ◌/◌, ◌%◌, ◌^◌, ◌<◌, false, length, if◌then◌else◌, ◌==◌};
+ghost use Rattle.std.specs.Prelude.{◌≡◌, ◌^◌, false, length};
 ghost use Rattle.std.specs.Option.{option_map};
-ghost use Rattle.shapes.specs.Arrays.{mask, group_of, mask_of};
+ghost use Rattle.shapes.specs.Arrays.{group, mask, group_of, mask_of};
 ghost use Rattle.shapes.specs.Views.{dims_of, six};
 
 use crate::shape::Shape;
+use std::array;
 
-fn bit(kept: bool) -> u32
-    ensures { result ≡ (if kept then 1 else 0) }
+/// Which dimensions, from 0 to 5, the group with a mask keeps.
+pub fn kept_dimensions(mask: u32) -> [bool; 6]
+    ensures { result ≡ group 6 mask }
 {
-    if kept { 1 } else { 0 }
+    array::from_fn(|i| (mask >> i) % 2 == 1)
 }
 
-// Whether the group with a mask keeps dimension i.
-fn kept(mask: u32, i: u32) -> bool
-    requires { i < 6 }
-    ensures { result ≡ (mask / 2 ^ i % 2 == 1) }
+// Six terms, written out: a loop would have to bound what it shifts.
+fn mask_of_six(group: [bool; 6]) -> u32
+    ensures { result ≡ mask group }
 {
-    (mask >> i) % 2 == 1
-}
-
-fn mask_of_six(g: [bool; 6]) -> u32
-    ensures { result ≡ mask g }
-{
-    bit(g[0]) + 2 * bit(g[1]) + 4 * bit(g[2]) + 8 * bit(g[3]) + 16 * bit(g[4]) + 32 * bit(g[5])
+    let [a, b, c, d, e, f] = group.map(|kept| u32::from(kept));
+    a + 2 * b + 4 * c + 8 * d + 16 * e + 32 * f
 }
 
 impl Shape {
@@ -41,14 +37,7 @@ impl Shape {
         if mask >= self.group_count() {
             return None;
         }
-        Some([
-            kept(mask, 0),
-            kept(mask, 1),
-            kept(mask, 2),
-            kept(mask, 3),
-            kept(mask, 4),
-            kept(mask, 5),
-        ])
+        Some(kept_dimensions(mask))
     }
 
     /// The mask of the group that keeps these dimensions, or none where one of them is past the last.

@@ -15,6 +15,7 @@ impl Shape {
     }
 
     /// The dimensions; those past the last have size 1 and edge 1.
+    // Six, with their number apart: a slice beside them would be a third way to read the same.
     pub fn dims(&self) -> [Dim; 6]
         ensures { result ≡ six none_dim (dims_of self.now) }
     {

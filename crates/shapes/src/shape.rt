@@ -9,6 +9,7 @@ use crate::dims::Dim;
 /// A dimension past the last has size 1 and edge 1.
 #[derive(Clone, Copy, Debug)]
 pub struct Shape {
+    // A length beside its array: a shape is copied, which an `ArrayVec` is not, and code works on all six at once.
     pub(crate) n: usize,
     pub(crate) dims: [Dim; 6],
     pub(crate) cells: u32,

@@ -1,5 +1,5 @@
 // Examples.
-use crate::{Cause, Dim, Reading, Shape, ShapeRefusal};
+use crate::{Cause, Dim, Reading, Shape, ShapeRefusal, kept_dimensions};
 use std::test::Fail;
 
 fn cut(size: u32, edge: u32) -> Dim {
@@ -35,6 +35,28 @@ fn cells_are_found(rt: HostRuntime) -> Result<(), Fail> {
     assert_eq!(rt; s.offset(s.local_of(at)), Some(3));
     assert_eq!(rt; s.storage_number([2, 0, 0, 0, 0, 0]), None);
     assert_eq!(rt; s.offset([0, 0, 1, 0, 0, 0]), None);
+    Ok(())
+}
+
+#[test]
+fn radices_number_digits(rt: HostRuntime) -> Result<(), Fail> {
+    let s = Shape::new(&[cut(4, 2), cut(6, 3)])?;
+    let edges = s.edge_radices();
+    assert_eq!(rt; edges.each(), [2, 3, 1, 1, 1, 1]);
+    assert_eq!(rt; edges.product(), 6);
+    assert_eq!(rt; edges.number([1, 2, 0, 0, 0, 0]), Some(5));
+    assert_eq!(rt; edges.number([2, 0, 0, 0, 0, 0]), None);
+    assert_eq!(rt; edges.digits(5), [1, 2, 0, 0, 0, 0]);
+    let second = edges.kept(kept_dimensions(2));
+    assert_eq!(rt; second.each(), [1, 3, 1, 1, 1, 1]);
+    assert_eq!(rt; s.count_radices().each(), [2, 2, 1, 1, 1, 1]);
+    Ok(())
+}
+
+#[test]
+fn a_dimension_is_written(rt: HostRuntime) -> Result<(), Fail> {
+    let text = format!(in rt.alloc(); "{}", cut(16_384, 128))?;
+    assert!(rt; text.as_str() == "16384/128");
     Ok(())
 }
 

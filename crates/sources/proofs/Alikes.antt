@@ -1,22 +1,19 @@
 -- What a fetch answers and leaves, case by case. Assumes nothing.
-use Rattle.std.proofs.Common.{◌≡◌, ℕ, ◌<◌, ◌≤◌, Bool, true, false, cond, ltb, leb, List, ◌++◌, length, take, drop, Ok, Err, Result, sym, refl, ap, ◌∙◌, ap₂, arith}
+use Rattle.std.proofs.Common.{◌≡◌, ℕ, ◌<◌, ◌≤◌, Bool, true, false, cond, ltb, leb, List, ◌++◌, length, take, drop, Ok, Err, Result, refl, ap, ◌∙◌, ap₂}
 use Rattle.std.proofs.lemmas.List.{take_at, length-replicate}
 use Rattle.std.proofs.lemmas.Bool.{lt-leb, le-ltb, leb-false, ltb-false}
 use Rattle.shapes.specs.Arrays.{volume, total_chunks}
 use Rattle.sources.specs.declared.refusals.SourceRefusal.{SourceRefusal}
 use Rattle.sources.specs.declared.refusals.SourceRefusal.TheVariants.{Beyond, Short}
-use Rattle.sources.specs.Meanings.{Chunk, values, faulty, Meaning, sized_chunk, Sized, read_answer, fetch_answer, cells_of, cells_after, room_answer, AnsweredAlike}
+use Rattle.sources.specs.Meanings.{Chunk, values, faulty, Meaning, sized_chunk, Sized, read_answer, fetch_answer, cells_of, cells_after, room_answer}
 
 module _ {M : Type 0} (empty : M) (m : Meaning M) (k : ℕ) where
-  never : {A X : Type 0} {x : X} {e : SourceRefusal} → ◌≡◌ {A = Result X SourceRefusal} (Ok x) (Err e) → A
-  never h = let z : ◌≡◌ {A = ℕ} 0 1 = cc in absurd (omega arith)
-
   -- the first two checks refuse
   refused_by : (v : ℕ) (b d : Bool) (e : SourceRefusal) (xs ys : List M) (r : Result (Unit {0}) SourceRefusal) → cond b (Err Beyond) (cond d (Err (Short v)) (Ok v)) ≡ Err e
       → (cond b (Err Beyond) (cond d (Err (Short v)) r) ≡ Err e) × (cond b xs (cond d xs ys) ≡ xs)
   refused_by v true d e xs ys r h = (cc, refl)
   refused_by v false true e xs ys r h = (cc, refl)
-  refused_by v false false e xs ys r h = never h
+  refused_by v false false e xs ys r h = cc
 
   pub room_refused : (e : SourceRefusal) (xs : List M) → room_answer m.dims k (length xs) ≡ Err e → (fetch_answer m k (length xs) ≡ Err e) × (cells_after empty m k xs ≡ xs)
   room_refused e xs h =
@@ -25,8 +22,8 @@ module _ {M : Type 0} (empty : M) (m : Meaning M) (k : ℕ) where
 
   -- they pass
   granted_by : (v w : ℕ) (b d : Bool) → cond b (Err Beyond) (cond d (Err (Short v)) (Ok v)) ≡ Ok w → (b ≡ false) × (d ≡ false) × (w ≡ v)
-  granted_by v w true d h = never (sym h)
-  granted_by v w false true h = never (sym h)
+  granted_by v w true d h = cc
+  granted_by v w false true h = cc
   granted_by v w false false h = (refl, refl, cc)
 
   pub room_granted : (w room : ℕ) → room_answer m.dims k room ≡ Ok w → (k < total_chunks m.dims) × (volume m.dims ≤ room) × (w ≡ volume m.dims)
@@ -53,12 +50,3 @@ pub first_cells : {M : Type 0} (empty : M) (m : Meaning M) (k : ℕ) (xs : List 
 first_cells empty m k xs sized below room =
     ap (take (volume m.dims)) (full_cells empty m k below xs room)
     ∙ take_at (cells_of empty (volume m.dims) (m.chunk k)) (drop (volume m.dims) xs) (volume m.dims) (length_cells empty (volume m.dims) (m.chunk k) (sized k below))
-
-pub answered_alike : {M : Type 0} (empty : M) (m : Meaning M) (k : ℕ) (xs ys xs' ys' : List M) (a b : Result (Unit {0}) SourceRefusal) → Sized m
-    → a ≡ fetch_answer m k (length xs) → b ≡ fetch_answer m k (length ys) → xs' ≡ cells_after empty m k xs → ys' ≡ cells_after empty m k ys → AnsweredAlike m k xs ys xs' ys' a b
-answered_alike empty m k xs ys xs' ys' a b sized p q r s = record {
-  answers = λ e. p ∙ ap (λ d. cond (leb (total_chunks m.dims) k) (Err Beyond) (cond d (Err (Short (volume m.dims))) (read_answer k (m.chunk k)))) e ∙ sym q;
-  cells = λ below f g.
-      ap (take (volume m.dims)) r ∙ first_cells empty m k xs sized below f
-      ∙ sym (ap (take (volume m.dims)) s ∙ first_cells empty m k ys sized below g);
-}

@@ -1,9 +1,9 @@
 -- Cells joined with the totals of what lies on them: item by item, it comes to the same. Assumes nothing.
-use Rattle.std.proofs.Common.{◌≡◌, ℕ, ◌+◌, ◌<◌, ◌≤◌, Bool, true, false, cond, eqb, List, [], ◌∷◌, ◌++◌, map, length, get_or, take, set, filter, sym, refl, ap, ◌∙◌, ⊎_elim, zero-add}
+use Rattle.std.proofs.Common.{◌≡◌, ℕ, ◌<◌, ◌≤◌, Bool, true, false, cond, eqb, List, [], ◌∷◌, ◌++◌, map, length, get_or, set, filter, sym, refl, ap, ◌∙◌, ⊎_elim, zero-add}
 use Rattle.std.specs.List.{range_with_len}
 use Rattle.std.proofs.lemmas.List.FromFn.{fill_by_all, length-map-range_with_len, get_or-map-range_with_len}
 use Rattle.std.proofs.lemmas.List.Elements.{filter-append}
-use Rattle.std.proofs.lemmas.List.{map-append, length-set, get_or-set_same, get_or-set_other, set_past, set-get_or, take_more}
+use Rattle.std.proofs.lemmas.List.{map-append, length-set, get_or-set_same, get_or-set_other, set_past, set-get_or}
 use Rattle.std.proofs.lemmas.Bool.{cases_eq, eq-eqb, ne_eqb, cond-true, cond-false}
 use Rattle.shapes.specs.declared.readings.Reading.{Reading}
 use Rattle.measures.specs.Laws.{Lawful, total}
@@ -93,10 +93,3 @@ module _ {M : Type 0} {empty : M} {op : M → M → M} (lawful : Lawful empty op
       joined_hit x p vs h =
           joined_one vs p (total empty op (lifts lifted (num x ∷ [])))
           ∙ ap (λ f. joined_with empty op f vs) (λ i o. (sym (sum_one (eqb p o) x) ∙ ap (λ b. total empty op (lifts lifted (map num (cond b (x ∷ []) [])))) (sym (h o))) i)
-
-      -- one item more of a list
-      pub joined_more : (xs : List R) (i : ℕ) (d : R) (vs ws us : List M) → i < length xs → ws ≡ joined_with empty op (sum_on (take i xs)) vs
-          → us ≡ joined_with empty op (sum_on (get_or xs i d ∷ [])) ws → us ≡ joined_with empty op (sum_on (take (i + 1) xs)) vs
-      joined_more xs i d vs ws us l before after =
-          after ∙ ap (joined_with empty op (sum_on (get_or xs i d ∷ []))) before ∙ joined_append (take i xs) (get_or xs i d ∷ []) vs
-          ∙ ap (λ ys. joined_with empty op (sum_on ys) vs) (sym (take_more xs i d l))

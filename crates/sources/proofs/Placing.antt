@@ -1,5 +1,5 @@
 -- The cell of a row: its chunk's storage number and its offset. Assumes nothing.
-use Rattle.std.proofs.Common.{◌≡◌, ℕ, zero, suc, ◌+◌, ◌*◌, ◌/◌, ◌<◌, ◌≤◌, true, false, ltb, List, [], ◌∷◌, ◌++◌, length, take, replicate, Some, None, Option, sym, refl, ap, ◌∙◌, ap₂, mod-lt, div-lt_iff_lt-mul, div-add-mod', arith}
+use Rattle.std.proofs.Common.{◌≡◌, ℕ, zero, suc, ◌+◌, ◌*◌, ◌/◌, ◌<◌, ◌≤◌, true, ltb, List, [], ◌∷◌, ◌++◌, length, take, replicate, Some, None, Option, sym, refl, ap, ◌∙◌, ap₂, mod-lt, div-lt_iff_lt-mul, div-add-mod', arith}
 use Rattle.std.specs.List.{AllByRecursion}
 use Rattle.std.proofs.lemmas.List.{length-map}
 use Rattle.std.proofs.lemmas.Bool.{and_parts, and_from, ltb-true, lt-ltb, cond-true}
@@ -39,9 +39,6 @@ numbered_six ks ys b few =
     let l : length ys ≤ 6 = omega (arith, below_length ks ys b) in
     cond-true (inside ks (six 0 ys)) (Some (number ks (six 0 ys))) None (inside_filled ks ys 6 6 b l) ∙ ap Some (number_filled ks ys 6 6 b l)
 
-never : {A : Type 0} → false ≡ true → A
-never e = let z : ◌≡◌ {A = ℕ} 0 1 = cc in absurd (omega arith)
-
 pub chunk_below : (x : ℕ) (d : Dim) → Fit d → x < d.size → x / d.edge < chunks d
 chunk_below x d fit h =
     let even = fit.4 in
@@ -50,14 +47,14 @@ chunk_below x d fit h =
 
 chunks_below : (ds : List Dim) (xs : List ℕ) → AllByRecursion Fit ds → inside (sizes ds) xs ≡ true → Below (counts ds) (chunk_of ds xs)
 chunks_below [] xs fit h = tt
-chunks_below (d ∷ ds) [] fit h = never h
+chunks_below (d ∷ ds) [] fit h = cc
 chunks_below (d ∷ ds) (x ∷ xs) fit h =
     let b = and_parts (ltb x d.size) (inside (sizes ds) xs) h in
     (chunk_below x d fit.0 (ltb-true x d.size b.0), chunks_below ds xs fit.1 b.1)
 
 locals_below : (ds : List Dim) (xs : List ℕ) → AllByRecursion Fit ds → inside (sizes ds) xs ≡ true → Below (edges ds) (local_of ds xs)
 locals_below [] xs fit h = tt
-locals_below (d ∷ ds) [] fit h = never h
+locals_below (d ∷ ds) [] fit h = cc
 locals_below (d ∷ ds) (x ∷ xs) fit h =
     let b = and_parts (ltb x d.size) (inside (sizes ds) xs) h in
     (mod-lt x fit.0.2, locals_below ds xs fit.1 b.1)
@@ -82,14 +79,14 @@ module _ (s : Shape) (r : Row) (in-it : in_range (dims_of s) r ≡ true) where
     storage_found = is_number ∙ ap (numbered (counts (dims_of s))) is_chunk ∙ storage_known
 
     pub storage_missing : o ≡ None → ⊥
-    storage_missing h = let found = storage_found in let z : ◌≡◌ {A = ℕ} 0 1 = cc in omega arith
+    storage_missing h = let found = storage_found in cc
 
   module _ (ls : List ℕ) (o : Option ℕ) (is_local : ls ≡ six 0 (local_of (dims_of s) r.at)) (is_number : o ≡ numbered (edges (dims_of s)) ls) where
     pub offset_found : o ≡ Some (offset (dims_of s) r.at)
     offset_found = is_number ∙ ap (numbered (edges (dims_of s))) is_local ∙ offset_known
 
     pub offset_missing : o ≡ None → ⊥
-    offset_missing h = let found = offset_found in let z : ◌≡◌ {A = ℕ} 0 1 = cc in omega arith
+    offset_missing h = let found = offset_found in cc
 
   pub placed : (o u : Option ℕ) (p q : ℕ) → o ≡ Some (storage (dims_of s) r.at) → o ≡ Some p → u ≡ Some (offset (dims_of s) r.at) → u ≡ Some q → Some (p, q) ≡ place (dims_of s) r
   placed o u p q chunk is-p local is-q =

@@ -1,11 +1,11 @@
 -- What a layer of corrections makes of a chunk, and what adding a correction answers and leaves. Assumes nothing.
-use Rattle.std.specs.Prelude.{ℕ, Bool, cond, ◌&&◌, List, [], ◌∷◌, ◌++◌, map, length, take, is_ok, Ok, Err, filter, Result, ◌==◌, nat_lt}
+use Rattle.std.specs.Prelude.{ℕ, Bool, cond, ◌&&◌, List, [], ◌∷◌, ◌++◌, map, length, is_ok, Ok, Err, filter, Result, ◌==◌, nat_lt}
+use Rattle.arrayvec.specs.ArrayVec.{ArrayVec}
 use Rattle.shapes.specs.declared.dims.Dim.{Dim}
 use Rattle.shapes.specs.declared.readings.Reading.{Reading}
 use Rattle.shapes.specs.Arrays.{volume, total_chunks}
 use Rattle.measures.specs.Laws.{total}
 use Rattle.sources.specs.declared.table.Correction.{Correction}
-use Rattle.sources.specs.declared.table.CorrectionTable.{CorrectionTable}
 use Rattle.sources.specs.declared.refusals.CorrectionRefusal.{CorrectionRefusal}
 use Rattle.sources.specs.declared.refusals.CorrectionRefusal.TheVariants.{OutOfRange, Full}
 use Rattle.sources.specs.Meanings.{Chunk, values, faulty}
@@ -13,8 +13,8 @@ use Rattle.sources.specs.Readings.{is_reading, lifts}
 use Rattle.sources.specs.Joins.{joined_with}
 
 -- the corrections in a table, in the order in which they were added
-abbrev pub held_in : CorrectionTable → List Correction
-held_in t = take t.used t.held
+abbrev pub held_in : ArrayVec Correction → List Correction
+held_in t = t.items
 
 -- a correction is for the cell at offset o of chunk k
 abbrev pub corrects : ℕ → ℕ → Correction → Bool

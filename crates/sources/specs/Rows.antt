@@ -6,6 +6,7 @@ use Rattle.shapes.specs.declared.readings.Reading.{Reading}
 use Rattle.shapes.specs.Arrays.{sizes, volume, inside, storage, offset}
 use Rattle.measures.specs.Laws.{total}
 use Rattle.sources.specs.declared.rows.Row.{Row}
+use Rattle.sources.specs.declared.table.Correction.{Correction}
 use Rattle.sources.specs.declared.refusals.RowRefusal.{RowRefusal}
 use Rattle.sources.specs.Meanings.{Chunk, values}
 use Rattle.sources.specs.Readings.{is_reading, lifts}
@@ -21,6 +22,10 @@ on_cell ds k o r = in_range ds r && (storage ds r.at == k && offset ds r.at == o
 -- the storage number and the offset of a row's cell; a row out of range belongs to none
 abbrev pub place : List Dim → Row → Option (ℕ × ℕ)
 place ds r = cond (in_range ds r) (Some (storage ds r.at, offset ds r.at)) None
+
+-- a row as a correction of its cell, likewise
+abbrev pub row_correction : List Dim → Row → Option Correction
+row_correction ds r = cond (in_range ds r) (Some (record { number = storage ds r.at; offset = offset ds r.at; reading = r.reading })) None
 
 -- the readings of all rows on a cell, in the order of the rows
 abbrev pub cell_readings : List Dim → List Row → ℕ → ℕ → List ℕ

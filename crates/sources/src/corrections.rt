@@ -1,71 +1,24 @@
 // A layer of corrections over any source.
-ghost use Rattle.std.specs.Prelude.{◌≡◌, [], ◌∷◌};
-ghost use Rattle.sources.specs.Corrected.{held_in, has_cell, correction_value, corrected, add_answer, held_after};
-ghost use Rattle.sources.specs.Joins.{joined_with};
+ghost use Rattle.std.specs.Prelude.{◌≡◌, []};
+ghost use Rattle.sources.specs.Corrected.{held_in, has_cell, corrected, add_answer, held_after};
 ghost use Rattle.shapes.specs.Views.{dims_of};
 
-use crate::cells::join_reading;
+use crate::cells::join_corrections;
 use crate::refusals::{CorrectionRefusal, SourceRefusal};
 use crate::source::{Shaped, Source};
-use crate::table::{Correction, CorrectionTable, Corrections};
+use crate::table::{Correction, Corrections};
+use arrayvec::ArrayVec;
 use measures::Measure;
 use shapes::{Reading, Shape};
 
-// Joins a correction to its cell, where that lies in the chunk with this number.
-fn correct<M: Measure>(correction: Correction, number: u64, cells: &mut [M])
-    ensures { cells.new ≡ joined_with M.empty M.op (correction_value M.empty M.op M.lifted (correction ∷ []) number) cells.old }
-{
-    if correction.number == number {
-        join_reading(cells, correction.offset, correction.reading);
-    }
-}
-
-fn correct_all<M: Measure>(held: &[Correction], number: u64, cells: &mut [M])
-    ensures { cells.new ≡ joined_with M.empty M.op (correction_value M.empty M.op M.lifted held.now number) cells.old }
-{
-    for correction in held {
-        correct(*correction, number, cells);
-    }
-}
-
-// Whether there is a chunk and an offset for a correction, and its reading is one.
-fn is_in_range(shape: &Shape, correction: Correction) -> bool
-    ensures { result ≡ has_cell (dims_of shape.now) correction }
-{
-    correction.number < shape.total_chunks()
-        && correction.offset < shape.chunk_cells()
-        && correction.reading <= Reading::LIMIT
-}
-
-impl CorrectionTable {
-    fn new() -> CorrectionTable
-        ensures { held_in result ≡ [] }
+impl Correction {
+    // Whether there is such a chunk and such an offset, and the reading is one.
+    fn is_in_range(self, shape: &Shape) -> bool
+        ensures { result ≡ has_cell (dims_of shape.now) self }
     {
-        let none = Correction {
-            number: 0,
-            offset: 0,
-            reading: 0,
-        };
-        CorrectionTable {
-            held: [none; 32],
-            used: 0,
-        }
-    }
-
-    // One correction more, in a table of these dimensions.
-    fn add(&mut self, shape: &Shape, correction: Correction) -> Result<(), CorrectionRefusal>
-        ensures answers { result ≡ add_answer (dims_of shape.now) (held_in self.old) correction }
-        ensures table { held_in self.new ≡ held_after (dims_of shape.now) (held_in self.old) correction }
-    {
-        if !is_in_range(shape, correction) {
-            return Err(CorrectionRefusal::OutOfRange);
-        }
-        if self.used >= 32 {
-            return Err(CorrectionRefusal::Full);
-        }
-        self.held[self.used] = correction;
-        self.used += 1;
-        Ok(())
+        self.number < shape.total_chunks()
+            && self.offset < shape.chunk_cells()
+            && self.reading <= Reading::LIMIT
     }
 }
 
@@ -76,7 +29,7 @@ impl<S> Corrections<S> {
     {
         Corrections {
             below,
-            table: CorrectionTable::new(),
+            table: ArrayVec::new(),
         }
     }
 }
@@ -88,8 +41,11 @@ impl<S: Shaped> Corrections<S> {
         ensures table { held_in self.new.table ≡ held_after (S.told self.old.below) (held_in self.old.table) correction }
         ensures below { self.new.below ≡ self.old.below }
     {
-        let shape = self.below.shape();
-        self.table.add(&shape, correction)
+        if !correction.is_in_range(&self.below.shape()) {
+            return Err(CorrectionRefusal::OutOfRange);
+        }
+        let pushed = self.table.try_push(correction);
+        pushed.map_err(|_| CorrectionRefusal::Full)
     }
 }
 
@@ -107,11 +63,7 @@ impl<M: Measure, S: Source<M>> Source<M> for Corrections<S> {
     fn fetch(&mut self, number: u64, into: &mut [M]) -> Result<(), SourceRefusal> {
         self.below.fetch(number, into)?;
         let v = self.below.shape().chunk_cells() as usize;
-        correct_all(
-            &self.table.held[0..self.table.used],
-            number,
-            &mut into[0..v],
-        );
+        join_corrections(self.table.iter().copied(), number, &mut into[..v]);
         Ok(())
     }
 }

@@ -10,7 +10,8 @@ pub enum SourceRefusal {
     Beyond,
     /// 15: the buffer has fewer cells than a chunk, which has this many.
     Short(usize),
-    /// 16: the chunk can't be read. The cause is a number, since each kind of source has causes of its own.
+    /// 16: the chunk can't be read. The cause is a number: each kind of source has causes of its own, and an associated type
+    /// for them would stand in every call of a run, which may meet sources of several kinds.
     Unreadable { chunk: u64, entry: u32, cause: u8 },
 }
 

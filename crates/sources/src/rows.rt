@@ -1,13 +1,13 @@
 // A source over rows of readings.
-ghost use Rattle.std.specs.Prelude.{◌≡◌, [], ◌∷◌};
+ghost use Rattle.std.specs.Prelude.{◌≡◌};
 ghost use Rattle.shapes.specs.Arrays.{inside, sizes};
 ghost use Rattle.shapes.specs.Views.{dims_of};
-ghost use Rattle.sources.specs.Joins.{joined_with};
-ghost use Rattle.sources.specs.Rows.{in_range, place, row_value, row_chunks, rows_answer};
+ghost use Rattle.sources.specs.Rows.{in_range, place, row_correction, row_chunks, rows_answer};
 
-use crate::cells::{empty_cells, join_reading};
+use crate::cells::{empty_cells, join_corrections};
 use crate::refusals::{RowRefusal, SourceRefusal};
 use crate::source::{Shaped, Source, check_room};
+use crate::table::Correction;
 use measures::Measure;
 use shapes::{Reading, Shape};
 
@@ -31,51 +31,38 @@ fn is_inside(shape: &Shape, at: [u32; 6]) -> bool
     ensures { result ≡ inside (sizes (dims_of shape.now)) at }
 {
     let dims = shape.dims();
-    for i in 0..6 {
-        if at[i] >= dims[i].size {
-            return false;
-        }
-    }
-    true
-}
-
-fn is_in_range(shape: &Shape, row: Row) -> bool
-    ensures { result ≡ in_range (dims_of shape.now) row }
-{
-    is_inside(shape, row.at) && row.reading <= Reading::LIMIT
+    dims.iter().zip(at.iter()).all(|(d, x)| *x < d.size)
 }
 
 impl Row {
+    fn is_in_range(self, shape: &Shape) -> bool
+        ensures { result ≡ in_range (dims_of shape.now) self }
+    {
+        is_inside(shape, self.at) && self.reading <= Reading::LIMIT
+    }
+
     /// The storage number and the offset of the row's cell, or none where the row is out of range.
     pub fn place(self, shape: &Shape) -> Option<(u64, u32)>
         ensures { result ≡ place (dims_of shape.now) self }
     {
-        if !is_in_range(shape, self) {
+        if !self.is_in_range(shape) {
             return None;
         }
         let chunk = shape.storage_number(shape.chunk_of(self.at))?;
         let offset = shape.offset(shape.local_of(self.at))?;
         Some((chunk, offset))
     }
-}
 
-// Joins a row to its cell, where that lies in the chunk with this number.
-fn join_row<M: Measure>(shape: &Shape, row: Row, number: u64, cells: &mut [M])
-    ensures { cells.new ≡ joined_with M.empty M.op (row_value M.empty M.op M.lifted (dims_of shape.now) (row ∷ []) number) cells.old }
-{
-    let Some((chunk, offset)) = row.place(shape) else {
-        return;
-    };
-    if chunk == number {
-        join_reading(cells, offset, row.reading);
-    }
-}
-
-fn join_rows<M: Measure>(shape: &Shape, rows: &[Row], number: u64, cells: &mut [M])
-    ensures { cells.new ≡ joined_with M.empty M.op (row_value M.empty M.op M.lifted (dims_of shape.now) rows.now number) cells.old }
-{
-    for row in rows {
-        join_row(shape, *row, number, cells);
+    // The row as a correction of its cell, or none where the row is out of range.
+    fn correction(self, shape: &Shape) -> Option<Correction>
+        ensures { result ≡ row_correction (dims_of shape.now) self }
+    {
+        let (number, offset) = self.place(shape)?;
+        Some(Correction {
+            number,
+            offset,
+            reading: self.reading,
+        })
     }
 }
 
@@ -91,12 +78,11 @@ impl<'a> RowTable<'a> {
     pub fn check(&self) -> Result<(), RowRefusal>
         ensures { result ≡ rows_answer (dims_of self.now.shape) self.now.rows.now }
     {
-        for row in 0..self.rows.len() {
-            if !is_in_range(&self.shape, self.rows[row]) {
-                return Err(RowRefusal { row });
-            }
+        let Self { shape, rows } = *self;
+        match rows.iter().position(|row| !row.is_in_range(&shape)) {
+            Some(row) => Err(RowRefusal { row }),
+            None => Ok(()),
         }
-        Ok(())
     }
 }
 
@@ -112,10 +98,12 @@ impl<'a, M: Measure> Source<M> for RowTable<'a> {
     ghost contents = { λ s. row_chunks M.empty M.op M.lifted (dims_of s.shape) s.rows.now };
 
     fn fetch(&mut self, number: u64, into: &mut [M]) -> Result<(), SourceRefusal> {
-        let v = check_room(&self.shape, number, into.len())?;
-        let cells = &mut into[0..v];
+        let Self { shape, rows } = *self;
+        let v = check_room(&shape, number, into.len())?;
+        let cells = &mut into[..v];
         empty_cells(cells);
-        join_rows(&self.shape, self.rows, number, cells);
+        let corrections = rows.iter().filter_map(|row| row.correction(&shape));
+        join_corrections(corrections, number, cells);
         Ok(())
     }
 }

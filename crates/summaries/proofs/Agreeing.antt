@@ -1,21 +1,25 @@
 -- Agreement with a summary cell, dimension by dimension, and of lists filled up to six.
-use Rattle.std.proofs.Common.{◌≡◌, ℕ, zero, suc, ◌+◌, ◌*◌, ◌/◌, ◌%◌, ◌<◌, ◌≤◌, true, false, cond, not, ◌&&◌, ◌||◌, eqb, ltb, List, [], ◌∷◌, ◌++◌, length, get_or, take, drop, replicate, refl, ap, ◌∙◌, zero-lt-suc, mul_comm, div-lt_iff_lt-mul, zero-mul, arith}
-use Rattle.std.proofs.lemmas.List.{drop_more}
+use Rattle.std.proofs.Common.{◌≡◌, ℕ, zero, suc, ◌+◌, ◌*◌, ◌/◌, ◌%◌, ◌<◌, ◌≤◌, Bool, true, false, cond, not, ◌&&◌, ◌||◌, eqb, ltb, List, [], ◌∷◌, ◌++◌, length, take, replicate, refl, ap, ap₂, ◌∙◌, zero-lt-suc, mul_comm, div-lt_iff_lt-mul, zero-mul, arith}
+use Rattle.std.specs.List.{list_all, zip}
 use Rattle.shapes.specs.declared.dims.Dim.{Dim}
 use Rattle.shapes.specs.Arrays.{Group, product, digits, sizes, cell_at, agrees, none_dim}
 use Rattle.shapes.specs.Views.{six}
 use Rattle.summaries.specs.Answers.{kept_inside}
 
--- the test at dimension i, and those behind it
-pub agrees_from : (g : Group) (xs : List ℕ) (ds : List Dim) (cs ls : List ℕ) (i : ℕ) → i < length g → i < length xs → i < length ds → i < length cs → i < length ls
-    → agrees (drop i g) (drop i xs) (cell_at (drop i ds) (drop i cs) (drop i ls))
-    ≡ (cond (get_or g i false) (eqb (get_or xs i 0) (get_or cs i 0 * (get_or ds i (record { size = 0; edge = 0 })).edge + get_or ls i 0)) true && agrees (drop (i + 1) g) (drop (i + 1) xs) (cell_at (drop (i + 1) ds) (drop (i + 1) cs) (drop (i + 1) ls)))
-agrees_from g xs ds cs ls i a b d e f =
-    ap (λ h. agrees h (drop i xs) (cell_at (drop i ds) (drop i cs) (drop i ls))) (drop_more g i false a)
-    ∙ (ap (λ ys. agrees (get_or g i false ∷ drop (i + 1) g) ys (cell_at (drop i ds) (drop i cs) (drop i ls))) (drop_more xs i 0 b)
-    ∙ (ap (λ es. agrees (get_or g i false ∷ drop (i + 1) g) (get_or xs i 0 ∷ drop (i + 1) xs) (cell_at es (drop i cs) (drop i ls))) (drop_more ds i (record { size = 0; edge = 0 }) d)
-    ∙ (ap (λ ys. agrees (get_or g i false ∷ drop (i + 1) g) (get_or xs i 0 ∷ drop (i + 1) xs) (cell_at (get_or ds i (record { size = 0; edge = 0 }) ∷ drop (i + 1) ds) ys (drop i ls))) (drop_more cs i 0 e)
-    ∙ ap (λ ys. agrees (get_or g i false ∷ drop (i + 1) g) (get_or xs i 0 ∷ drop (i + 1) xs) (cell_at (get_or ds i (record { size = 0; edge = 0 }) ∷ drop (i + 1) ds) (get_or cs i 0 ∷ drop (i + 1) cs) ys)) (drop_more ls i 0 f))))
+kept_or : (b e : Bool) → (not b || e) ≡ cond b e true
+kept_or true e = refl
+kept_or false e = refl
+
+-- agreement, dimension by dimension
+pub zips_agree : (g : Group) (xs : List ℕ) (ds : List Dim) (cs ls : List ℕ)
+    → list_all (λ (t : (Bool × ℕ) × ((ℕ × Dim) × ℕ)). not t.0.0 || eqb t.0.1 (t.1.0.0 * t.1.0.1.edge + t.1.1)) (zip (zip g xs) (zip (zip cs ds) ls)) ≡ agrees g xs (cell_at ds cs ls)
+zips_agree [] xs ds cs ls = refl
+zips_agree (b ∷ g) [] ds cs ls = refl
+zips_agree (b ∷ g) (x ∷ xs) [] [] ls = refl
+zips_agree (b ∷ g) (x ∷ xs) [] (c ∷ cs) ls = refl
+zips_agree (b ∷ g) (x ∷ xs) (d ∷ ds) [] ls = refl
+zips_agree (b ∷ g) (x ∷ xs) (d ∷ ds) (c ∷ cs) [] = refl
+zips_agree (b ∷ g) (x ∷ xs) (d ∷ ds) (c ∷ cs) (l ∷ ls) = ap₂ (λ t u. t && u) (kept_or b (eqb x (c * d.edge + l))) (zips_agree g xs ds cs ls)
 
 -- groups filled up keep nothing more
 filled_none : (n m : ℕ) (xs ys : List ℕ) → agrees (take n (replicate m false)) xs ys ≡ true
@@ -60,14 +64,14 @@ filled_digits (k ∷ ks) (suc n) m s few h = ap (λ ys. s % k ∷ ys) (filled_di
 pub digits-six : (ks : List ℕ) (s : ℕ) → length ks ≤ 6 → s < product ks → digits (six 1 ks) s ≡ six 0 (digits ks s)
 digits-six ks s few h = filled_digits ks 6 6 s few h
 
--- coordinates inside in the kept dimensions: at dimension i, and behind it
-pub kept_from : (g : Group) (ds : List Dim) (xs : List ℕ) (i : ℕ) → i < length g → i < length ds → i < length xs
-    → kept_inside (drop i g) (sizes (drop i ds)) (drop i xs)
-    ≡ ((not (get_or g i false) || ltb (get_or xs i 0) (get_or ds i (record { size = 0; edge = 0 })).size) && kept_inside (drop (i + 1) g) (sizes (drop (i + 1) ds)) (drop (i + 1) xs))
-kept_from g ds xs i a b c =
-    ap (λ h. kept_inside h (sizes (drop i ds)) (drop i xs)) (drop_more g i false a)
-    ∙ (ap (λ es. kept_inside (get_or g i false ∷ drop (i + 1) g) (sizes es) (drop i xs)) (drop_more ds i (record { size = 0; edge = 0 }) b)
-    ∙ ap (kept_inside (get_or g i false ∷ drop (i + 1) g) (sizes (get_or ds i (record { size = 0; edge = 0 }) ∷ drop (i + 1) ds))) (drop_more xs i 0 c))
+-- coordinates inside in the kept dimensions, dimension by dimension
+pub zips_inside : (g : Group) (xs : List ℕ) (ds : List Dim) → length xs ≡ length ds
+    → list_all (λ (t : (Bool × ℕ) × Dim). not t.0.0 || ltb t.0.1 t.1.size) (zip (zip g xs) ds) ≡ kept_inside g (sizes ds) xs
+zips_inside [] xs ds long = refl
+zips_inside (b ∷ g) [] [] long = refl
+zips_inside (b ∷ g) [] (d ∷ ds) long = absurd (omega arith)
+zips_inside (b ∷ g) (x ∷ xs) [] long = refl
+zips_inside (b ∷ g) (x ∷ xs) (d ∷ ds) long = ap (λ t. (not b || ltb x d.size) && t) (zips_inside g xs ds (omega arith))
 
 kept_none : (n m : ℕ) (ks xs : List ℕ) → length xs ≡ n → kept_inside (take n (replicate m false)) ks xs ≡ true
 kept_none zero m ks xs l = refl

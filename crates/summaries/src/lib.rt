@@ -1,6 +1,7 @@
 // One summary cell, straight from its definition.
 #![tactic(auto)]
 
+mod cell;
 mod cells;
 mod refusals;
 mod summary;

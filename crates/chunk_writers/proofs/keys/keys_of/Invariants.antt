@@ -4,5 +4,5 @@ use Rattle.shapes.specs.Views.{dims_of}
 use Rattle.chunk_writers.specs.Keys.{key_of}
 use Rattle.chunk_writers.proofs.keys.keys_of.Given as goal
 
-abbrev pub invariant-loop-i : goal.invariant-loop-i
-invariant-loop-i l = vec_items l.keys ≡ map (key_of (dims_of l.shape) l.rows) (range_with_len 0 l.i)
+abbrev pub invariant-loop-number : goal.invariant-loop-number
+invariant-loop-number l = vec_items l.keys ≡ map (key_of (dims_of l.shape) l.rows) (range_with_len 0 l.number)

@@ -1,7 +1,8 @@
 use Rattle.std.proofs.Common.{arith}
 use Rattle.chunk_files.specs.Layouts.{le4}
-use Rattle.chunk_writers.proofs.Putting.{put_then}
+use Rattle.chunk_writers.proofs.Putting.{put_both}
 use Rattle.chunk_writers.proofs.puts.put_dim.Goals as goal
 
 pub returns : goal.returns
-returns c = put_then c.args.out.now c.put_word.new.out c.put_word-2.new.out c.args.at _ (le4 c.args.d.size) (le4 c.args.d.edge) c.put_word.ensures c.put_word-2.ensures (omega arith) (omega arith)
+returns c =
+    put_both c.args.out.now c.put_bytes.new.out c.put_bytes-2.new.out c.args.at _ c.to_le_bytes.result c.to_le_bytes-2.result (le4 c.args.d.size) (le4 c.args.d.edge) c.to_le_bytes.ensures c.to_le_bytes-2.ensures c.put_bytes.ensures c.put_bytes-2.ensures (omega arith) (omega arith)

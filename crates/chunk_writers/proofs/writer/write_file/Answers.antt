@@ -1,43 +1,35 @@
-use Rattle.std.proofs.Common.{◌<◌, length, Err, vec_items, sym, ap, ◌∙◌, subst, inl}
-use Rattle.std.proofs.lemmas.Result.{err_from_is_err_and}
+use Rattle.std.proofs.Common.{None, Some, vec_items, sym, ◌∙◌, subst, inl}
 use Rattle.shapes.specs.Views.{dims_of}
 use Rattle.shapes.proofs.Held.{all_fit}
+use Rattle.sources.specs.Rows.{first_outside, rows_answer}
 use Rattle.chunk_writers.specs.Keys.{Keyed, Repeated}
-use Rattle.chunk_writers.specs.Answers.{bytes_after}
-use Rattle.chunk_writers.proofs.Answered.{rows_passed, rows_in_range, refused_twice, none_twice, sound}
+use Rattle.chunk_writers.proofs.Answered.{rows_passed, in_range_from, refused_twice, none_twice, sound}
 use Rattle.chunk_writers.proofs.writer.write_file.Goals as goal
 
 pub sorted_keys-requires : goal.sorted_keys-requires
-sorted_keys-requires c = rows_in_range (dims_of c.args.shape.now) c.args.rows.now c.in_ok-check_rows.ensures
-
-pub returns-in_err-check_twice : goal.returns-in_err-check_twice
-returns-in_err-check_twice c =
-    let s = c.args.shape.now in
-    let p = err_from_is_err_and c.from_residual-in_err-check_twice.result c.from_residual-in_err-check_twice.ensures.1 in
-    let h = c.in_err-check_twice.ensures in
+sorted_keys-requires c =
+    let ds = dims_of c.args.shape.now in
     let rows = c.args.rows.now in
-    let ks = vec_items c.in_ok-keys.keys in
-    let same = c.deref.ensures.value in
-    let m = h.0 in
-    let R : Repeated ks (length ks) m = subst (λ xs. Repeated xs (length xs) m) same h.3 in
-    let below : m < length ks = subst (λ xs. m < length xs) same h.1 in
-    let is = p.1 ∙ ap Err (p.2 ∙ h.2) in
-    let refused = refused_twice (dims_of s) (all_fit s) rows ks (rows_passed (dims_of s) rows c.in_ok-check_rows.ensures) c.in_ok-keys.ensures (length c.args.out.now) m below R in
-    record { answers = inl (is ∙ sym refused); bytes = sym (ap (bytes_after (dims_of s) rows c.args.out.now) is) }
+    in_range_from ds 0 rows (rows_passed (first_outside ds 0 rows) (c.in_ok-check.ensures ∙ (λ i. rows_answer (dims_of (c.new.ensures.0 i)) (c.new.ensures.1 i))))
 
-pub put_file-requires : goal.put_file-requires
-put_file-requires c =
+pub returns-in-Some-clause-answers : goal.returns-in-Some-clause-answers
+returns-in-Some-clause-answers c =
     let s = c.args.shape.now in
     let rows = c.args.rows.now in
-    let ks = vec_items c.in_ok-keys.keys in
-    let R : Repeated ks (length ks) (length ks) = subst (λ xs. Repeated xs (length xs) (length xs)) c.deref.ensures.value c.in_ok-check_twice.ensures in
-    subst (Keyed (dims_of s) rows) (sym c.deref-2.ensures.value) (sound (dims_of s) (all_fit s) rows ks (rows_passed (dims_of s) rows c.in_ok-check_rows.ensures) c.in_ok-keys.ensures 0 R)
+    let passed = rows_passed (first_outside (dims_of s) 0 rows) (c.in_ok-check.ensures ∙ (λ i. rows_answer (dims_of (c.new.ensures.0 i)) (c.new.ensures.1 i))) in
+    inl (sym (refused_twice (dims_of s) (all_fit s) rows (vec_items c.in_ok-keys.keys) passed c.in_ok-keys.ensures _ c.in-Some.row (subst (λ ks. Repeated ks (Some c.in-Some.row)) c.deref.ensures.value c.in-Some.ensures)))
 
-pub returns : goal.returns
-returns c =
+pub invariant_of-table : goal.invariant_of-table
+invariant_of-table c =
     let s = c.args.shape.now in
     let rows = c.args.rows.now in
-    let ks = vec_items c.in_ok-keys.keys in
-    let R : Repeated ks (length ks) (length ks) = subst (λ xs. Repeated xs (length xs) (length xs)) c.deref.ensures.value c.in_ok-check_twice.ensures in
-    let none = none_twice (dims_of s) (all_fit s) rows ks (rows_passed (dims_of s) rows c.in_ok-check_rows.ensures) c.in_ok-keys.ensures (length c.args.out.now) R in
-    record { answers = inl (c.put_file.ensures.answers ∙ sym none); bytes = c.put_file.ensures.bytes }
+    let passed = rows_passed (first_outside (dims_of s) 0 rows) (c.in_ok-check.ensures ∙ (λ i. rows_answer (dims_of (c.new.ensures.0 i)) (c.new.ensures.1 i))) in
+    let K = subst (Keyed (dims_of s) rows) (sym c.deref-2.ensures.value) (sound (dims_of s) (all_fit s) rows (vec_items c.in_ok-keys.keys) passed c.in_ok-keys.ensures 0 (subst (λ ks. Repeated ks None) c.deref.ensures.value c.in_default.ensures)) in
+    record { ranged = K.ranged; each = K.each; every = K.every; rises = K.rises }
+
+pub returns-clause-answers : goal.returns-clause-answers
+returns-clause-answers c =
+    let s = c.args.shape.now in
+    let rows = c.args.rows.now in
+    let passed = rows_passed (first_outside (dims_of s) 0 rows) (c.in_ok-check.ensures ∙ (λ i. rows_answer (dims_of (c.new.ensures.0 i)) (c.new.ensures.1 i))) in
+    inl (c.put_file.ensures.answers ∙ sym (none_twice (dims_of s) (all_fit s) rows (vec_items c.in_ok-keys.keys) passed c.in_ok-keys.ensures _ (subst (λ ks. Repeated ks None) c.deref.ensures.value c.in_default.ensures)))

@@ -1,14 +1,14 @@
-use Rattle.std.proofs.Common.{◌≡◌, ℕ, ◌+◌, Bool, true, false, cond, length, is_err, count_by, sym, ap, ◌∙◌, ap₂, arith}
+use Rattle.std.proofs.Common.{◌≡◌, ℕ, ◌+◌, Bool, length, is_err, count_by, sym, ap, ◌∙◌, ap₂, arith}
 use Rattle.std.specs.List.{range_with_len}
 use Rattle.shapes.specs.Arrays.{total_chunks}
 use Rattle.sources.specs.Meanings.{Meaning, means, fetch_answer}
-use Rattle.listings.proofs.Counting.{counted_more, count_bound, unfetched_unreadable}
+use Rattle.listings.proofs.Counting.{byte_counts, counted_more, count_bound, unfetched_unreadable}
 use Rattle.listings.proofs.counts.count_unreadable.Goals as goal
-use Rattle.listings.proofs.counts.count_unreadable.Goals.{then-is_err, else-is_err}
 
 pub overflow_add-count : goal.overflow_add-count
 overflow_add-count g c =
     let σ = means g.S.Shaped.told g.S.Source.contents c.args.source.now in
+    let one = byte_counts c.is_err.result c.from-count.result c.from-count.ensures in
     omega (arith, c.loop-number.invariant.1, count_bound (λ k. is_err (fetch_answer σ k (length c.args.buffer.now))) c.loop-number.number)
 
 pub loop-number-preserved : goal.loop-number-preserved
@@ -20,14 +20,7 @@ loop-number-preserved g c =
     let test : ℕ → Bool = λ k. is_err (fetch_answer σ k room) in
     let tested : test n ≡ c.is_err.result =
     sym (c.is_err.ensures.value ∙ ap is_err (c.fetch.ensures.answers ∙ ap₂ (λ (τ : Meaning g.row.M.Denot) (r : ℕ). fetch_answer τ n r) inv.0 c.loop-number.auto.buffer)) in
-    let count : (t : Bool) → c.is_err.result ≡ t → c.if-is_err.count ≡ c.loop-number.count + cond t 1 0 → c.if-is_err.count ≡ count_by test (range_with_len 0 (n + 1)) =
-    λ t is then. counted_more test n c.loop-number.count c.if-is_err.count t inv.1 (tested ∙ is) then in (
-      c.fetch.ensures.same ∙ inv.0,
-      elim c.if-is_err.branch [
-        | then-is_err w ↦ count true w.if-is_err.true w.count-is
-        | else-is_err w ↦ count false w.if-is_err.false (omega (arith, w.count-is))
-      ],
-    )
+    (c.fetch.ensures.same ∙ inv.0, counted_more test n c.loop-number.count _ c.is_err.result inv.1 tested (ap (λ m. c.loop-number.count + m) (byte_counts c.is_err.result c.from-count.result c.from-count.ensures).0))
 
 pub returns : goal.returns
 returns g c =

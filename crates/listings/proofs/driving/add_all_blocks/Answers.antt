@@ -1,5 +1,4 @@
-use Rattle.std.proofs.Common.{◌+◌, string_bytes, sym, refl, ap, ◌∙◌, subst, arith}
-use Rattle.shapes.specs.Arrays.{total_chunks, volume}
+use Rattle.std.proofs.Common.{◌+◌, string_bytes, refl, ap, ◌∙◌, subst}
 use Rattle.sources.specs.Meanings.{Meaning, means}
 use Rattle.runs.specs.Holdings.{moment}
 use Rattle.listings.specs.Making.{Driven}
@@ -14,23 +13,6 @@ loop-scan-init g c =
       rests_first g.M.Measure.empty g.M.Measure.columns g.M.Measure.op σ (string_bytes c.args.text.now) (moment c.args.run.now) c.requires.driven c.requires.fresh.0 c.requires.fresh.1,
     )
 
-pub pass_chunk-requires : goal.pass_chunk-requires
-pass_chunk-requires g c =
-    let inv = c.loop-scan.invariant in
-    record {
-      driven = subst (λ (τ : Meaning g.row.M.Denot). Driven g.M.Measure.empty g.M.Measure.op τ (moment c.loop-scan.run)) (sym inv.0) inv.2.driven;
-      idle = inv.2.idle;
-      more = omega (arith, inv.1, c.loop-scan-test.true, c.total_chunks-scan-end.ensures, ap total_chunks c.shape.ensures, ap (λ (τ : Meaning g.row.M.Denot). total_chunks τ.dims) inv.0);
-    }
-
-pub add_waiting_blocks-requires : goal.add_waiting_blocks-requires
-add_waiting_blocks-requires g c =
-    let inv = c.loop-scan.invariant in
-    record {
-      tells = c.requires.tells;
-      room = omega (arith, ap volume c.pass_chunk.ensures.driven.represents.same_shape, ap (λ (τ : Meaning g.row.M.Denot). volume τ.dims) inv.0, c.requires.room, c.loop-scan.auto.buffer);
-    }
-
 pub loop-scan-preserved : goal.loop-scan-preserved
 loop-scan-preserved g c =
     let empty = g.M.Measure.empty in
@@ -44,8 +26,3 @@ loop-scan-preserved g c =
       rests_next empty g.M.Measure.columns op σ (string_bytes c.args.text.now) (moment c.loop-scan.run) (moment c.pass_chunk.new.run) (moment c.add_waiting_blocks.new.run)
           (string_bytes c.loop-scan.text) (string_bytes c.add_waiting_blocks.new.text) inv.2 c.pass_chunk.ensures.handed handed.0 handed.1,
     )
-
-pub returns : goal.returns
-returns g c =
-    let inv = c.loop-scan.invariant in
-    record { rests = inv.2; whole = omega (arith, inv.1, c.loop-scan-test.false, c.loop-scan.auto._scan-end, c.total_chunks-scan-end.ensures, ap total_chunks c.shape.ensures) }

@@ -1,14 +1,8 @@
-use Rattle.std.proofs.Common.{◌≤◌, ◌++◌, length, take, is_ok, string_bytes, refl, ap, ◌∙◌, arith}
-use native.Mathlib.Nat.{sub-zero}
+use Rattle.std.proofs.Common.{◌≤◌, length, is_ok, string_bytes, ap, ◌∙◌, arith}
 use Rattle.shapes.specs.Arrays.{volume}
 use Rattle.runs.specs.Holdings.{dims_in, moment}
-use Rattle.listings.specs.Listings.{cell_lines}
-use Rattle.listings.proofs.DrivenLines.{fewer_left, goes_nowhere, goes_on_more, goes_on_idle}
+use Rattle.listings.proofs.DrivenLines.{fewer_left, goes_on_more, goes_on_idle}
 use Rattle.listings.proofs.driving.add_waiting_blocks.Goals as goal
-
-pub loop-mask-init : goal.loop-mask-init
-loop-mask-init g c =
-    (refl, λ σ driven. goes_nowhere g.M.Measure.empty g.M.Measure.columns g.M.Measure.op σ (moment c.args.run.now) (string_bytes c.args.text.now) driven)
 
 pub loop-mask-preserved : goal.loop-mask-preserved
 loop-mask-preserved g c = (
@@ -16,12 +10,11 @@ loop-mask-preserved g c = (
   λ σ driven.
       let empty = g.M.Measure.empty in
       let columns = g.M.Measure.columns in
-      let room : volume (dims_in (moment c.args.run.now)) ≤ length c.loop-mask.buffer = omega (arith, c.requires.room, c.loop-mask.invariant.0) in
+      let room : volume (dims_in (moment c.args.run.now)) ≤ length c.loop-mask.buffer = omega (arith, c.requires, c.loop-mask.invariant.0) in
       goes_on_more empty columns g.M.Measure.op σ (moment c.args.run.now) (string_bytes c.args.text.now) driven (moment c.loop-mask.run) (string_bytes c.loop-mask.text)
       (c.loop-mask.invariant.1 σ driven) c.loop-mask.buffer c.hand.result c.hand.new.buffer (moment c.hand.new.self) c.hand.ensures.hands room (c.in-Ok.mask, c.in-Ok.number, c.in-Ok.cells) c.in-Ok.is
       (string_bytes c.add_block_lines.new.text)
-      (c.in_ok-add_block_lines.ensures
-      ∙ ap (λ n. string_bytes c.loop-mask.text ++ cell_lines empty columns c.in-Ok.mask c.in-Ok.number 0 (take n c.hand.new.buffer)) (sub-zero c.in-Ok.cells)),
+      c.in_ok-add_block_lines.ensures,
 )
 
 pub loop-mask-smaller : goal.loop-mask-smaller
@@ -31,6 +24,6 @@ loop-mask-smaller g c =
 
 pub returns : goal.returns
 returns g c = λ σ driven.
-    let room : volume (dims_in (moment c.args.run.now)) ≤ length c.loop-mask.buffer = omega (arith, c.requires.room, c.loop-mask.invariant.0) in
+    let room : volume (dims_in (moment c.args.run.now)) ≤ length c.loop-mask.buffer = omega (arith, c.requires, c.loop-mask.invariant.0) in
     goes_on_idle g.M.Measure.empty g.M.Measure.columns g.M.Measure.op σ (moment c.args.run.now) (string_bytes c.args.text.now) driven (moment c.loop-mask.run) (string_bytes c.loop-mask.text)
     (c.loop-mask.invariant.1 σ driven) c.loop-mask.buffer c.hand.result c.hand.new.buffer (moment c.hand.new.self) c.hand.ensures.hands room (ap is_ok c.in_default.is)

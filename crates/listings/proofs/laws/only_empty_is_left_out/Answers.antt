@@ -1,4 +1,4 @@
-use Rattle.listings.proofs.Filled.{total_tells, range_tells, marks_tell}
+use Rattle.listings.specs.Telling.{total_tells, range_tells, marks_tell}
 use Rattle.listings.proofs.laws.only_empty_is_left_out.Goals as goal
 
 pub returns : goal.returns

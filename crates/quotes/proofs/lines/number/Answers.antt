@@ -1,27 +1,25 @@
-use Rattle.std.proofs.Common.{◌+◌, ◌-◌, ◌*◌, ◌^◌, min, cond, get_or, drop, None, sym, ap, ◌∙◌, arith}
+use Rattle.std.proofs.Common.{◌+◌, get_or, drop, sym, ◌∙◌, arith}
 use Rattle.std.proofs.lemmas.List.{at_drop_more, at_drop_all}
 use Rattle.quotes.specs.Lines.{digits_after}
-use Rattle.quotes.proofs.Parting.{number_some}
+use Rattle.quotes.proofs.Parting.{digits_none, digits_some, number_some}
 use Rattle.quotes.proofs.lines.number.Goals as goal
 
-pub returns-then-not-is_digit : goal.returns-then-not-is_digit
-returns-then-not-is_digit c =
+pub returns-in_err-n : goal.returns-in_err-n
+returns-in_err-n c =
     let xs = c.args.text.now in
-    let i = c.loop-i.i in
-    let n = c.loop-i.n in
-    sym (number_some xs (sym c.is_empty.ensures ∙ c.if-is_empty.false) ∙ (sym c.loop-i.invariant ∙ (at_drop_more (digits_after n) xs i 0 c.loop-i-test.true
-    ∙ ap (λ t. cond t (digits_after (min (10 * n + (get_or xs i 0 - 48)) (2 ^ 32 - 1)) (drop (i + 1) xs)) None) (sym c.is_digit.ensures ∙ c.if-not-is_digit.true))))
+    let i = c.loop-b.b-index in
+    let n = c.loop-b.n in
+    c.from_residual.ensures ∙ sym (number_some xs (sym c.is_empty.ensures ∙ c.if-is_empty.false)
+    ∙ (sym c.loop-b.invariant ∙ (at_drop_more (digits_after n) xs i 0 c.loop-b-test.true ∙ digits_none n (get_or xs i 0) (drop (i + 1) xs) (sym c.with_digit.ensures ∙ c.in_err-n.was))))
 
-pub loop-i-preserved : goal.loop-i-preserved
-loop-i-preserved c =
+pub loop-b-preserved : goal.loop-b-preserved
+loop-b-preserved c =
     let xs = c.args.text.now in
-    let i = c.loop-i.i in
-    let n = c.loop-i.n in
-    ap (λ m. digits_after m (drop (i + 1) xs)) c.with_digit-n.ensures
-    ∙ (sym (at_drop_more (digits_after n) xs i 0 c.loop-i-test.true
-    ∙ ap (λ t. cond t (digits_after (min (10 * n + (get_or xs i 0 - 48)) (2 ^ 32 - 1)) (drop (i + 1) xs)) None) (sym c.is_digit.ensures ∙ c.if-not-is_digit.false)) ∙ c.loop-i.invariant)
+    let i = c.loop-b.b-index in
+    let n = c.loop-b.n in
+    sym (at_drop_more (digits_after n) xs i 0 c.loop-b-test.true ∙ digits_some n (get_or xs i 0) (drop (i + 1) xs) c.in_ok-n.n (sym c.with_digit.ensures ∙ c.in_ok-n.was)) ∙ c.loop-b.invariant
 
 pub returns : goal.returns
 returns c =
     let xs = c.args.text.now in
-    sym (number_some xs (sym c.is_empty.ensures ∙ c.if-is_empty.false) ∙ (sym c.loop-i.invariant ∙ at_drop_all (digits_after c.loop-i.n) xs c.loop-i.i (omega arith)))
+    sym (number_some xs (sym c.is_empty.ensures ∙ c.if-is_empty.false) ∙ (sym c.loop-b.invariant ∙ at_drop_all (digits_after c.loop-b.n) xs c.loop-b.b-index (omega arith)))

@@ -1,13 +1,19 @@
-use Rattle.std.proofs.Common.{◌≡◌, ◌+◌, ◌*◌, get_or, set}
-use Rattle.shapes.specs.Arrays.{digits}
-use Rattle.runs.specs.Boxes.{dot}
+use Rattle.std.proofs.Common.{◌≡◌, ◌*◌, get_or, set}
+use Rattle.shapes.specs.Arrays.{product}
 use Rattle.runs.proofs.Joining.{JoinedUpTo}
 use Rattle.runs.proofs.boxes.join_box.Given as goal
 
-abbrev pub invariant-loop-r : goal.invariant-loop-r
-invariant-loop-r g l =
+abbrev pub invariant-loop-row : goal.invariant-loop-row
+invariant-loop-row g l =
     let m = g.M.Measure in
-    (l.walk.at ≡ digits (set l.radices l.along 1) l.r)
-    × (l.walk.from ≡ l.from.start + dot l.from.strides (digits (set l.radices l.along 1) l.r))
-    × (l.walk.to ≡ l.to.start + dot l.to.strides (digits (set l.radices l.along 1) l.r))
-    × JoinedUpTo m.empty m.op m.lawful l.initial.cells l.radices l.from.start l.from.strides l.to.start l.to.strides l.cells (l.r * get_or l.radices l.along 0)
+    let it = l.row-iterator in
+    let ks = l.fn.edges.each in
+    record {
+      can : (goal.iterator-loop-row g).can_next it;
+      finite : (goal.iterator-loop-row g).is_finite it;
+      rows : it.radices ≡ set ks l.along 1;
+      from_grid : it.from ≡ l.from;
+      to_grid : it.to ≡ l.to;
+      height : it.height ≡ product (set ks l.along 1);
+      joined : JoinedUpTo m.empty m.op m.lawful l.initial.cells ks l.from.start l.from.strides l.to.start l.to.strides l.cells (it.number * get_or ks l.along 0);
+    }

@@ -8,9 +8,9 @@ loop-l-preserved g c =
     let l = c.loop-l.l in
     let t : ℕ → ℕ = λ o. c.args.to + o * c.args.to_stride in
     let f : ℕ → ℕ = λ o. c.args.from + o * c.args.from_stride in
-    turn_more m.empty m.op m.lawful c.args.cells.now t f c.loop-l.cells l c.index-cells-from.result c.index-cells-to.result c.joined.result
+    turn_more m.empty m.op m.lawful c.args.cells.now t f c.loop-l.cells l c.index-cells-from.result c.index-cells-to.result c.join.result
     (c.requires.from_within l (omega arith)) (c.requires.to_within l (omega arith)) (λ k q e. c.requires.apart l k (omega arith) (omega arith) (sym e))
-    c.loop-l.invariant c.index-cells-from.is c.index-cells-to.is c.joined.ensures
+    c.loop-l.invariant c.index-cells-from.is c.index-cells-to.is c.join.ensures
 
 pub returns : goal.returns
 returns g c =

@@ -1,94 +1,88 @@
-use Rattle.std.proofs.Common.{◌≡◌, ◌*◌, ◌++◌, length, get_or, take, drop, set, sym, refl, ap, ◌∙◌, zero-mul, arith}
-use Rattle.std.proofs.lemmas.List.{length-set}
+use Rattle.std.proofs.Common.{◌≡◌, ◌*◌, ◌++◌, get_or, take, drop, set, sym, refl, ap, ◌∙◌, subst, zero-mul, arith}
+use lib.Seq.{paste}
 use Rattle.shapes.specs.Arrays.{product}
-use Rattle.runs.specs.Boxes.{next_digits, box_cells}
-use Rattle.runs.proofs.Digits.{walk_below, walk_digits, walk_room, walk_fits, walk_place, start_digits, start_place, dot_none}
-use Rattle.runs.proofs.Rows.{positive_at, rows_count, rows_positive, rows_within, row_within, row_room, row_written, rows_written}
+use Rattle.runs.specs.Boxes.{Leads, box_cells, row_cells}
+use Rattle.runs.proofs.Rows.{product_rows, rows_written}
+use Rattle.runs.proofs.RowWalks.{row_fits, from_row, box_more}
 use Rattle.runs.proofs.boxes.write_box.Goals as goal
 
-pub nonzero_div-height : goal.nonzero_div-height
-nonzero_div-height g c = positive_at c.args.radices c.row_dimension-along.result c.requires.positive (omega (arith, c.row_dimension-along.ensures.leads.0))
-
-pub loop-r-init : goal.loop-r-init
-loop-r-init g c =
-    let ks = c.args.radices in
+pub loop-row-init : goal.loop-row-init
+loop-row-init g c =
+    let ks = c.args.edges.each in
     let a = c.row_dimension-along.result in
     let f = c.args.grid in
-    let pos = rows_positive ks a c.requires.positive in (
-      start_digits (set ks a 1) pos (length-set ks a 1 ∙ omega arith),
-      start_place (set ks a 1) f.strides f.start pos,
-      refl,
-      sym (ap (λ z. take z (box_cells g.M.Measure.empty c.args.cells.now ks f.start f.strides) ++ drop z c.args.out.now) (zero-mul (get_or ks a 0))),
-    )
+    let e = c.into_iter-row-iterator.ensures.into_iter_gives in
+    let rows = c.of-row-items.ensures.rows in
+    record {
+      can = tt;
+      finite = tt;
+      rows = ap (λ z. z.radices) e ∙ rows.0;
+      grid = ap (λ z. z.from) e ∙ c.of-row-items.ensures.grids.0;
+      height = ap (λ z. z.height) e ∙ rows.1 ∙ ap product rows.0;
+      written = sym (ap (λ z. take z (box_cells g.M.Measure.empty c.args.cells.now ks f.start f.strides) ++ drop z c.args.out.now)
+          (ap (λ z. z.number * get_or ks a 0) e ∙ ap (λ z. z * get_or ks a 0) rows.2 ∙ zero-mul (get_or ks a 0)));
+    }
 
-pub overflow_mul-r : goal.overflow_mul-r
-overflow_mul-r g c =
-    let ks = c.args.radices in
+pub overflow_mul-row : goal.overflow_mul-row
+overflow_mul-row g c =
+    let e = c.args.edges in
+    let is = c.each-radices.ensures in
     let a = c.row_dimension-along.result in
-    omega (arith, c.requires.counted, c.requires.room, row_room ks a c.args.count c.loop-r.r (omega (arith, c.row_dimension-along.ensures.leads.0)) c.requires.positive c.requires.counted (omega arith))
+    let i = c.loop-row.invariant in
+    let s = c.in-Some.ensures.steps in
+    let n = c.in-Some.row.number in
+    let k : get_or c.each-radices.result a 0 ≡ get_or e.each a 0 = ap (λ z. get_or z a 0) is in
+    let fits = row_fits e a (subst (λ z. Leads z a) is c.row_dimension-along.ensures.leads) c.loop-row.row-iterator c.next.new.self i.rows i.height s.6 s.7 n s.0 in
+    omega (arith, fits, ap (λ z. n * z) k, c.requires.room)
 
 pub write_row-requires : goal.write_row-requires
 write_row-requires g c =
-    let ks = c.args.radices in
+    let e = c.args.edges in
+    let is = c.each-radices.ensures in
     let a = c.row_dimension-along.result in
-    let lead = c.row_dimension-along.ensures.leads in
+    let lead = subst (λ z. Leads z a) is c.row_dimension-along.ensures.leads in
     let f = c.args.grid in
-    let i = c.loop-r.invariant in
+    let i = c.loop-row.invariant in
+    let s = c.in-Some.ensures.steps in
+    let n = c.in-Some.row.number in
+    let k : get_or c.each-radices.result a 0 ≡ get_or e.each a 0 = ap (λ z. get_or z a 0) is in
+    let fits = row_fits e a lead c.loop-row.row-iterator c.next.new.self i.rows i.height s.6 s.7 n s.0 in
     record {
-      within = row_within ks f.strides a f.start lead (omega arith) c.requires.positive c.loop-r.r c.loop-r.walk.from i.1 (length c.args.cells.now) c.requires.within;
-      room = omega (arith, c.requires.counted, c.requires.room, row_room ks a c.args.count c.loop-r.r (omega (arith, lead.0)) c.requires.positive c.requires.counted (omega arith));
+      within = λ l q. from_row e a lead c.loop-row.row-iterator c.next.new.self i.rows i.height s.6 s.7 n s.0 f (omega arith) i.grid c.in-Some.row.from s.1 g.M.Measure.empty c.args.cells.now c.requires.within l (omega arith);
+      room = omega (arith, fits, ap (λ z. n * z) k, c.requires.room, c.loop-row.auto.out);
     }
 
-pub advance-walk-requires : goal.advance-walk-requires
-advance-walk-requires g c =
-    let ks = c.args.radices in
+pub loop-row-preserved : goal.loop-row-preserved
+loop-row-preserved g c =
+    let e = c.args.edges in
+    let is = c.each-radices.ensures in
     let a = c.row_dimension-along.result in
-    let rows = set ks a 1 in
-    let s = c.args.cells.now in
+    let lead = subst (λ z. Leads z a) is c.row_dimension-along.ensures.leads in
     let f = c.args.grid in
-    let i = c.loop-r.invariant in
-    let w = c.loop-r.walk in
-    let n = c.loop-r.r in
-    let pos = rows_positive ks a c.requires.positive in
+    let i = c.loop-row.invariant in
+    let s = c.in-Some.ensures.steps in
+    let n = c.in-Some.row.number in
+    let k : get_or c.each-radices.result a 0 ≡ get_or e.each a 0 = ap (λ z. get_or z a 0) is in
     record {
-      below = walk_below rows n w.at pos i.0;
-      reached = (walk_room rows n w.at pos i.0 f.start w.from f.strides i.1, omega (arith, dot_none 6 w.at));
-      fits = (
-        omega (arith, walk_fits rows n w.at pos i.0 f.start w.from f.strides i.1 (length s) (rows_within ks a f.start f.strides (length s) c.requires.positive c.requires.within)),
-        omega (arith, dot_none 6 w.at, dot_none 6 (next_digits rows w.at)),
-      );
+      can = tt;
+      finite = tt;
+      rows = s.3 ∙ i.rows;
+      grid = s.4 ∙ i.grid;
+      height = s.6 ∙ i.height;
+      written = box_more e a lead c.loop-row.row-iterator c.next.new.self i.rows i.height s.6 s.7 n s.0 f (omega arith) i.grid c.in-Some.row.from s.1 g.M.Measure.empty c.args.cells.now
+          c.args.out.now c.loop-row.out c.write_row.new.out c.requires.room i.written
+          (c.write_row.ensures ∙ ap (λ z. paste c.loop-row.out (n * z) (row_cells g.M.Measure.empty c.args.cells.now z c.in-Some.row.from (get_or f.strides a 0)) z) k);
     }
-
-pub loop-r-preserved : goal.loop-r-preserved
-loop-r-preserved g c =
-    let m = g.M.Measure in
-    let ks = c.args.radices in
-    let a = c.row_dimension-along.result in
-    let lead = c.row_dimension-along.ensures.leads in
-    let rows = set ks a 1 in
-    let s = c.args.cells.now in
-    let f = c.args.grid in
-    let i = c.loop-r.invariant in
-    let w = c.loop-r.walk in
-    let n = c.loop-r.r in
-    let r = c.advance-walk.result in
-    let e = c.advance-walk.ensures in
-    let pos = rows_positive ks a c.requires.positive in (
-      walk_digits rows n w.at pos i.0 r.at e.at,
-      walk_place rows n w.at pos i.0 f.start w.from f.strides i.1 r.from e.from,
-      omega (arith, e.to, dot_none 6 w.at, dot_none 6 (next_digits rows w.at)),
-      row_written ks f.strides a f.start lead (omega arith) c.requires.positive n w.from i.1 m.empty s c.args.out.now (omega (arith, c.requires.counted, c.requires.room))
-          (omega (arith, c.requires.counted, row_room ks a c.args.count n (omega (arith, lead.0)) c.requires.positive c.requires.counted (omega arith)))
-          c.loop-r.out c.write_row.new.out i.3 c.write_row.ensures,
-    )
 
 pub returns : goal.returns
 returns g c =
-    let m = g.M.Measure in
-    let ks = c.args.radices in
+    let e = c.args.edges in
+    let is = c.each-radices.ensures in
     let a = c.row_dimension-along.result in
+    let lead = subst (λ z. Leads z a) is c.row_dimension-along.ensures.leads in
     let f = c.args.grid in
-    let n = rows_count ks a c.args.count (omega (arith, c.row_dimension-along.ensures.leads.0)) c.requires.positive c.requires.counted in
-    let z : c.loop-r.r ≡ product (set ks a 1) = omega (arith, n.0) in
-    rows_written m.empty c.args.cells.now ks f.start f.strides c.loop-r.out c.args.out.now (c.loop-r.r * get_or ks a 0) c.args.count
-    (ap (λ v. v * get_or ks a 0) z ∙ sym n.1) c.requires.counted c.loop-r.invariant.3
+    let i = c.loop-row.invariant in
+    let n = c.loop-row.row-iterator.number in
+    let all : n ≡ product (set e.each a 1) = c.in-None.ensures.steps ∙ i.height in
+    rows_written g.M.Measure.empty c.args.cells.now e.each f.start f.strides c.loop-row.out c.args.out.now (n * get_or e.each a 0) (product e.each)
+    (ap (λ z. z * get_or e.each a 0) all ∙ sym (product_rows e.each a lead.0)) refl i.written

@@ -1,11 +1,18 @@
-use Rattle.std.proofs.Common.{◌≡◌, ◌+◌, ◌*◌, ◌++◌, get_or, take, drop, set}
-use Rattle.shapes.specs.Arrays.{digits}
-use Rattle.runs.specs.Boxes.{dot, box_cells}
+use Rattle.std.proofs.Common.{◌≡◌, ◌*◌, ◌++◌, get_or, take, drop, set}
+use Rattle.shapes.specs.Arrays.{product}
+use Rattle.runs.specs.Boxes.{box_cells}
 use Rattle.runs.proofs.boxes.write_box.Given as goal
 
-abbrev pub invariant-loop-r : goal.invariant-loop-r
-invariant-loop-r g l =
-    (l.walk.at ≡ digits (set l.radices l.along 1) l.r)
-    × (l.walk.from ≡ l.grid.start + dot l.grid.strides (digits (set l.radices l.along 1) l.r))
-    × (l.walk.to ≡ 0)
-    × (l.out ≡ take (l.r * get_or l.radices l.along 0) (box_cells g.M.Measure.empty l.cells l.radices l.grid.start l.grid.strides) ++ drop (l.r * get_or l.radices l.along 0) l.initial.out)
+abbrev pub invariant-loop-row : goal.invariant-loop-row
+invariant-loop-row g l =
+    let it = l.row-iterator in
+    let ks = l.fn.edges.each in
+    let done = it.number * get_or ks l.along 0 in
+    record {
+      can : (goal.iterator-loop-row g).can_next it;
+      finite : (goal.iterator-loop-row g).is_finite it;
+      rows : it.radices ≡ set ks l.along 1;
+      grid : it.from ≡ l.grid;
+      height : it.height ≡ product (set ks l.along 1);
+      written : l.out ≡ take done (box_cells g.M.Measure.empty l.cells ks l.grid.start l.grid.strides) ++ drop done l.initial.out;
+    }

@@ -18,17 +18,10 @@ handed_on b a g p = record { dims = g.dims; place = g.place; adds = g.adds; cont
 
 pub pass-requires : goal.pass-requires
 pass-requires c = record {
-  controlled = c.requires;
   idle = none_from c.args.control.now.next c.if-not-waits.ensures.next;
   more = chunk_left c.requires.dims c.requires.place c.requires.adds c.args.control.now c.requires.controls false false c.if-is_done.ensures refl
       (c.if-not-waits.ensures.exactly c.requires.dims c.requires.place c.requires.adds c.requires.controls) refl;
 }
-
-pub next_block-next-requires : goal.next_block-next-requires
-next_block-next-requires c = elim c.if-not-waits.branch [
-  | then-not-waits w ↦ subst IsControlled (sym w.control-is) (passed_on c.args.control.now w.pass.new.self c.requires w.pass.ensures)
-  | else-not-waits w ↦ subst IsControlled (sym w.control-is) c.requires
-]
 
 pub advance-requires : goal.advance-requires
 advance-requires c = elim c.if-not-waits.branch [

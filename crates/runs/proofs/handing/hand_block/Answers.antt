@@ -11,7 +11,7 @@ overflow_cast-result g c =
     let b : Moment g.row.M.Denot = moment_of c.args.state.now c.args.cells.now in
     let x = c.in_ok-block.block in
     let found : BlockToHand c.args.state.now (length c.args.cells.now) (length c.args.buffer.now) (Ok x) = subst (BlockToHand c.args.state.now (length c.args.cells.now) (length c.args.buffer.now)) c.in_ok-block.was c.block_to_hand.ensures in
-    omega (arith, (mask_few m.empty m.op m.lawful b x found.0 (root_mask (dims_in b)) refl).0)
+    omega (arith, mask_few m.empty m.op m.lawful b x found.0 (root_mask (dims_in b)) refl)
 
 pub write_next-requires : goal.write_next-requires
 write_next-requires g c =

@@ -1,14 +1,15 @@
-use Rattle.std.proofs.Common.{◌≤◌, length, arith}
-use Rattle.std.proofs.lemmas.List.{length-map, length-take}
-use Rattle.shapes.specs.Arrays.{sizes}
+use Rattle.std.proofs.Common.{rules, tests, ◌∙◌, arith}
+use Rattle.std.proofs.lemmas.Iterator.{YieldsList-from_slice, YieldsList-from_zip}
+use Rattle.std.proofs.lemmas.Iterator.Search.{all_from_yields_List}
 use Rattle.shapes.specs.Views.{dims_of}
-use Rattle.sources.proofs.Insides.{six_inside, six_outside}
+use Rattle.shapes.proofs.Held.{dims_few}
+use Rattle.sources.proofs.Insides.{is_below, six_below}
 use Rattle.sources.proofs.rows.is_inside.Goals as goal
-
-pub returns-then-at-i : goal.returns-then-at-i
-returns-then-at-i c = six_outside (dims_of c.args.shape.now) c.dims-dims.result c.dims-dims.ensures _ c.args.at c.loop-i.i (omega arith) c.loop-i-test.true c.if-at-i.true
 
 pub returns : goal.returns
 returns c =
-    let few : length (sizes (dims_of c.args.shape.now)) ≤ 6 = simp (length-map, length-take) (omega arith) in
-    six_inside (dims_of c.args.shape.now) c.dims-dims.result c.dims-dims.ensures _ c.args.at (omega arith) few (λ i h. c.loop-i.invariant i (omega arith))
+    let s = c.args.shape.now in
+    let dims = c.dims-dims.result in
+    let at = c.args.at in
+    all_from_yields_List is_below c.all.new.self _ _ c.all.ensures.ran (YieldsList-from_zip (YieldsList-from_slice dims (cc)) (YieldsList-from_slice at (cc))) (λ p b f call. search (rules, tests))
+    ∙ six_below (dims_of s) dims at c.dims-dims.ensures (omega arith) (dims_few s)

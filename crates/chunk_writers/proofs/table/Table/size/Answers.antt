@@ -1,61 +1,48 @@
-use Rattle.std.proofs.Common.{◌≡◌, ◌+◌, ◌-◌, length, get_or, ap, ◌∙◌, subst, arith}
+use Rattle.std.proofs.Common.{◌≡◌, ◌+◌, length, ap, ◌∙◌, arith}
+use Rattle.std.proofs.lemmas.List.{length-append}
 use Rattle.shapes.specs.Arrays.{volume}
 use Rattle.shapes.specs.Views.{dims_of}
-use Rattle.chunk_writers.specs.Keys.{none_key, Cut}
-use Rattle.chunk_writers.specs.Written.{body_size}
-use Rattle.chunk_writers.proofs.Filed.{first_cut}
-use Rattle.chunk_writers.proofs.Tabled.{small_chunks, table_size, table_rising, table_next, table_skipped, table_done, table_few, table_length}
+use Rattle.chunk_writers.specs.Written.{body_bytes, in_chunk}
+use Rattle.chunk_writers.proofs.Filed.{left_from, size_file, left_more}
+use Rattle.chunk_writers.proofs.Tabled.{first_key, no_key, table_begins, table_next, table_done}
 use Rattle.chunk_writers.proofs.table.Table.size.Goals as goal
 
-pub loop-k-init : goal.loop-k-init
-loop-k-init c =
+pub loop-key-init : goal.loop-key-init
+loop-key-init c =
     let t = c.args.self.now in
-    let f = table_size t c.requires in
+    let f = size_file t in
     let s = c.bodies_start-size.ensures.0 in
-    (0, omega arith, first_cut t.keys.now, omega arith, omega arith)
+    record { chunk = 0; within = omega arith; onward = table_begins t; left = omega arith; bound = omega arith }
 
-pub segment_end-end-requires : goal.segment_end-end-requires
-segment_end-end-requires c =
+pub split_body-requires : goal.split_body-requires
+split_body-requires c =
     let t = c.args.self.now in
-    let inv = c.loop-k.invariant in
-    record { rising = table_rising t c.requires; begins = (table_next t c.requires inv.0 c.loop-k.k (omega arith) inv.2).0 }
+    let inv = c.loop-key.invariant in
+    let first = first_key c.loop-key.keys.now c.in-Some.key.now c.in-Some.ensures.value in
+    let next = table_next t inv.chunk c.loop-key.keys.now c.in-Some.key.now inv.onward first.0 first.1 in
+    record { within = next.1; onward = next.0 }
 
-pub body_size-size-requires : goal.body_size-size-requires
-body_size-size-requires c =
+pub loop-key-preserved : goal.loop-key-preserved
+loop-key-preserved c =
     let t = c.args.self.now in
-    let inv = c.loop-k.invariant in
-    let next = table_next t c.requires inv.0 c.loop-k.k (omega arith) inv.2 in
-    let j = (get_or t.keys.now c.loop-k.k none_key).chunk in
-    let v = small_chunks t c.requires in
-    let cells = c.chunk_cells-v.ensures in
-    let few = table_few t c.requires j c.loop-k.k c.segment_end-end.result next.2 next.0 c.segment_end-end.ensures.ends in
-    record { cells = omega arith; filled = omega arith }
-
-pub loop-k-preserved : goal.loop-k-preserved
-loop-k-preserved c =
-    let t = c.args.self.now in
-    let inv = c.loop-k.invariant in
-    let k = c.loop-k.k in
-    let e = c.segment_end-end.result in
-    let next = table_next t c.requires inv.0 k (omega arith) inv.2 in
-    let j = (get_or t.keys.now k none_key).chunk in
-    let ends = c.segment_end-end.ensures.ends in
-    let rest = c.segment_end-end.ensures.rest in
-    let below = next.2 in
-    let long = table_length t c.requires j k e next.2 next.0 ends in
-    let skip = table_skipped t c.requires inv.0 j k next.1 (omega arith) inv.2 next.0 in
-    let body : c.body_size-size.result ≡ body_size (volume (dims_of t.shape)) (e - k) = c.body_size-size.ensures.0 ∙ ap (λ n. body_size n (e - k)) c.chunk_cells-v.ensures in
-    let bound = c.body_size-size.ensures.1 in
-    let size = inv.3 in
-    let low = inv.4 in
-    (j + 1, omega arith, ends, omega arith, omega arith)
+    let ds = dims_of t.shape in
+    let inv = c.loop-key.invariant in
+    let j = c.in-Some.key.now.chunk in
+    let first = first_key c.loop-key.keys.now c.in-Some.key.now c.in-Some.ensures.value in
+    let next = table_next t inv.chunk c.loop-key.keys.now c.in-Some.key.now inv.onward first.0 first.1 in
+    let below = next.1 in
+    let same = next.2 in
+    let was = inv.left in
+    let long = ap length (left_more t j next.1) ∙ length-append (body_bytes (volume ds) (in_chunk ds t.rows.now j)) (left_from ds t.rows.now (j + 1)) in
+    let size : c.size-size.result ≡ length (body_bytes (volume ds) (in_chunk ds t.rows.now j)) = c.size-size.ensures.size ∙ (λ i. length (body_bytes (c.split_body.ensures.cells i) (c.split_body.ensures.body i))) in
+    let bound = inv.bound in
+    let few = c.size-size.ensures.bound in
+    let all = c.split_body.ensures.all in
+    record { chunk = j + 1; within = omega arith; onward = c.split_body.ensures.onward; left = omega arith; bound = omega arith }
 
 pub returns : goal.returns
 returns c =
-    let t = c.args.self.now in
-    let inv = c.loop-k.invariant in
-    let w = inv.2.within in
-    let e : c.loop-k.k ≡ length t.keys.now = omega arith in
-    let done = table_done t c.requires inv.0 inv.1 (subst (Cut t.keys.now inv.0) e inv.2) in
-    let s = inv.3 in
+    let inv = c.loop-key.invariant in
+    let done = table_done c.args.self.now inv.chunk c.loop-key.keys.now inv.within inv.onward (no_key c.loop-key.keys.now c.in_default.ensures.value) in
+    let was = inv.left in
     omega arith

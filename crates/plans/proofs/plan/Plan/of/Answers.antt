@@ -1,29 +1,53 @@
-use Rattle.std.proofs.Common.{◌≡◌, ◌^◌, ◌≤◌, List, length, take, sym, ap, ◌∙◌, subst}
+use Rattle.std.proofs.Common.{◌≡◌, ℕ, ◌+◌, ◌^◌, ◌<◌, ◌≤◌, List, map, length, slice_index, take, sym, ap, ◌∙◌, subst, arith}
 use Rattle.shapes.specs.declared.dims.Dim.{Dim}
-use Rattle.shapes.specs.Arrays.{volume, extent}
-use Rattle.shapes.specs.Views.{dims_of}
-use Rattle.plans.specs.Plans.{Edged}
-use Rattle.plans.specs.Views.{Planned}
+use Rattle.shapes.specs.Arrays.{volume, extent, numbers, group}
+use Rattle.shapes.specs.Views.{dims_of, six}
+use Rattle.plans.specs.Plans.{Edged, plan_place, plan_adds, plan_need}
 use Rattle.plans.proofs.LeastNeed.{least_need, need_bounded}
-use Rattle.plans.proofs.Planning.{few_dims, edged_dims, taken_dims}
+use Rattle.plans.proofs.Picking.{adds_inside}
+use Rattle.plans.proofs.Planning.{few_dims, edged_dims, taken_dims, taken_places}
 use Rattle.plans.proofs.plan.Plan.of.Goals as goal
 
-pub plan_of-requires : goal.plan_of-requires
-plan_of-requires c =
+pub invariant_of-draft : goal.invariant_of-draft
+invariant_of-draft c =
     let s = c.args.shape.now in
-    let e : dims_of s ≡ take c.dimensions.result c.dims-dims.result = sym (taken_dims s c.dimensions.result c.dims-dims.result c.dimensions.ensures c.dims-dims.ensures) in
+    let n = c.dimensions-n.result in
+    let ds = take n c.dims-dims.result in
+    let e : dims_of s ≡ ds = sym (taken_dims s n c.dims-dims.result c.dimensions-n.ensures c.dims-dims.ensures) in
+    let few : length ds ≤ 6 = subst (λ (es : List Dim). length es ≤ 6) e (few_dims s) in
     record {
-      edged = subst (λ (ds : List Dim). Edged ds) e (edged_dims s);
-      few = subst (λ (ds : List Dim). length ds ≤ 6) e (few_dims s);
-      small = subst (λ (ds : List Dim). extent ds ≤ 2 ^ 34) e s.small_array;
-      root = c.chunk_cells.ensures ∙ ap volume e;
+      edged = subst (λ (es : List Dim). Edged es) e (edged_dims s);
+      few = few;
+      small = subst (λ (es : List Dim). extent es ≤ 2 ^ 34) e s.small_array;
+      placed = taken_places ds few n c.places_of-places.result (c.dimensions-n.ensures ∙ ap length e) c.places_of-places.ensures;
+    }
+
+pub need-need-requires : goal.need-need-requires
+need-need-requires c =
+    c.chunk_cells.ensures ∙ ap volume (sym (taken_dims c.args.shape.now c.dimensions-n.result c.dims-dims.result c.dimensions-n.ensures c.dims-dims.ensures))
+
+pub invariant_of-result : goal.invariant_of-result
+invariant_of-result c =
+    let s = c.args.shape.now in
+    let n = c.dimensions-n.result in
+    let ds = take n c.dims-dims.result in
+    let en : n ≡ length ds = c.dimensions-n.ensures ∙ ap length (sym (taken_dims s n c.dims-dims.result c.dimensions-n.ensures c.dims-dims.ensures)) in
+    record {
+      few = omega (arith, few_dims s, c.dimensions-n.ensures);
+      below = subst (λ k. (m : ℕ) → m + 1 < 2 ^ k → slice_index c.adds-adds.result m < k) (sym en) (λ m h. rw (c.adds-adds.ensures m h) (adds_inside ds m h));
     }
 
 pub returns : goal.returns
 returns c =
     let s = c.args.shape.now in
+    let e = taken_dims s c.dimensions-n.result c.dims-dims.result c.dimensions-n.ensures c.dims-dims.ensures in
     record {
-      planned = subst (λ (ds : List Dim). Planned ds c.plan_of.result) (taken_dims s c.dimensions.result c.dims-dims.result c.dimensions.ensures c.dims-dims.ensures) c.plan_of.ensures;
+      planned = record {
+        counted = c.dimensions-n.ensures;
+        placed = c.places_of-places.ensures ∙ ap (λ ds. six 0 (map (plan_place ds) (numbers ds))) e;
+        adding = subst (λ (ds : List Dim). (m : ℕ) → m + 1 < 2 ^ length ds → slice_index c.adds-adds.result m ≡ plan_adds ds (group (length ds) m)) e c.adds-adds.ensures;
+        needing = c.need-need.ensures ∙ ap plan_need e;
+      };
       least = least_need (dims_of s) (edged_dims s);
       bounded = need_bounded (dims_of s) (edged_dims s);
     }

@@ -1,23 +1,15 @@
-use Rattle.std.proofs.Common.{sym, ap, ◌∙◌, arith}
-use Rattle.std.proofs.lemmas.List.{length-map}
-use Rattle.shapes.specs.Arrays.{edges}
+use Rattle.std.proofs.Common.{rules, ap, ◌∙◌, map}
+use borrow.Author.Tests.{tests}
+use Rattle.shapes.specs.Arrays.{none_dim}
 use Rattle.shapes.specs.Views.{dims_of}
 use Rattle.shapes.specs.declared.dims.Dim.{Dim}
-use Rattle.shapes.proofs.Held.{dims_long, dims_few, held_more, held_all, edge_at}
+use Rattle.shapes.proofs.Made.{made_map}
+use Rattle.shapes.proofs.Held.{held_six}
+use Rattle.shapes.proofs.Sixes.{map-six}
 use Rattle.shapes.proofs.shape.Shape.edges.Goals as goal
-
-pub loop-i-preserved : goal.loop-i-preserved
-loop-i-preserved c =
-    let s = c.args.self.now in
-    let ds = dims_of s in
-    let n = dims_long s in
-    let few = dims_few s in
-    held_more s 1 (edges ds) (length-map ds (λ (d : Dim). d.edge)) c.loop-i.e c.loop-i.i c.edge_of.result c.loop-i-test.true c.loop-i.invariant
-    (c.edge_of.ensures ∙ (ap (λ (d : Dim). d.edge) c.dim_at.ensures.0 ∙ sym (edge_at ds c.loop-i.i (omega arith))))
 
 pub returns : goal.returns
 returns c =
     let s = c.args.self.now in
-    let ds = dims_of s in
-    let few = dims_few s in
-    held_all s 1 (edges ds) (length-map ds (λ (d : Dim). d.edge)) c.loop-i.e c.loop-i.i (omega arith) c.loop-i.invariant
+    made_map _ (λ (d : Dim). d.edge) none_dim 0 s.dims c.map.result c.map.ensures.items s.six (λ k y q l b. search (rules, tests))
+    ∙ (ap (map (λ (d : Dim). d.edge)) (held_six s) ∙ map-six (λ (d : Dim). d.edge) none_dim (dims_of s))

@@ -1,10 +1,12 @@
-use Rattle.std.proofs.Common.{◌≡◌, ◌≤◌, length, take, Some, None, Err, Result, sym, refl, ap, ◌∙◌, subst, arith, MatchResult}
+use Rattle.std.proofs.Common.{◌≡◌, ◌≤◌, length, take, Some, None, Err, Result, sym, refl, ap, ◌∙◌, subst, arith, MatchResult, rules}
+use borrow.Author.Tests.{tests}
 use Rattle.std.proofs.lemmas.Result.{err_from_is_err_and}
 use Rattle.shapes.specs.declared.dims.Dim.{Dim}
 use Rattle.shapes.specs.declared.shape.Shape.{Shape}
 use Rattle.shapes.specs.declared.refusals.ShapeRefusal.{ShapeRefusal}
 use Rattle.shapes.specs.declared.refusals.ShapeRefusal.TheVariants.{Volume, Extent}
-use Rattle.shapes.specs.Arrays.{product, volume, extent, total_chunks}
+use Rattle.shapes.proofs.Made.{made_map}
+use Rattle.shapes.specs.Arrays.{none_dim, product, volume, extent, total_chunks}
 use Rattle.shapes.specs.Limits.{shape_fault}
 use Rattle.shapes.specs.Views.{dims_of}
 use Rattle.shapes.specs.Refusals.{shape_refusal}
@@ -26,25 +28,25 @@ returns-in_err-check_dims c =
 pub product_within-requires : goal.product_within-requires
 product_within-requires c =
     let ds = c.args.dims.now in
-    record { some = omega arith; small = omega arith; each = factors_fit ds c.filled_up-all.result c.filled_up-all.ensures (omega arith) c.in_ok-check_dims.ensures (λ (d : Dim). d.edge) c.six_edges.result c.six_edges.ensures (λ d f. (f.2, omega (arith, f.1, f.3))) }
+    record { some = omega arith; small = omega arith; each = factors_fit ds c.filled_up-all.result c.filled_up-all.ensures (omega arith) c.in_ok-check_dims.ensures (λ (d : Dim). d.edge) c.map.result (made_map _ (λ (d : Dim). d.edge) none_dim 0 c.filled_up-all.result c.map.result c.map.ensures.items (long ds c.filled_up-all.result c.filled_up-all.ensures (omega arith)) (λ k y q l b. search (rules, tests))) (λ d f. (f.2, omega (arith, f.1, f.3))) }
 
 pub product_within-requires-2 : goal.product_within-requires-2
 product_within-requires-2 c =
     let ds = c.args.dims.now in
-    record { some = omega arith; small = omega arith; each = factors_fit ds c.filled_up-all.result c.filled_up-all.ensures (omega arith) c.in_ok-check_dims.ensures (λ (d : Dim). d.size) c.six_sizes.result c.six_sizes.ensures (λ d f. (f.0, f.1)) }
+    record { some = omega arith; small = omega arith; each = factors_fit ds c.filled_up-all.result c.filled_up-all.ensures (omega arith) c.in_ok-check_dims.ensures (λ (d : Dim). d.size) c.map-2.result (made_map _ (λ (d : Dim). d.size) none_dim 0 c.filled_up-all.result c.map-2.result c.map-2.ensures.items (long ds c.filled_up-all.result c.filled_up-all.ensures (omega arith)) (λ k y q l b. search (rules, tests))) (λ d f. (f.0, f.1)) }
 
 pub returns-in_default : goal.returns-in_default
 returns-in_default c =
     let ds = c.args.dims.now in
-    let v : product c.six_edges.result ≡ volume ds = ap product c.six_edges.ensures ∙ all_product ds c.filled_up-all.result c.filled_up-all.ensures (omega arith) (λ (d : Dim). d.edge) refl in
+    let v : product c.map.result ≡ volume ds = ap product (made_map _ (λ (d : Dim). d.edge) none_dim 0 c.filled_up-all.result c.map.result c.map.ensures.items (long ds c.filled_up-all.result c.filled_up-all.ensures (omega arith)) (λ k y q l b. search (rules, tests))) ∙ all_product ds c.filled_up-all.result c.filled_up-all.ensures (omega arith) (λ (d : Dim). d.edge) refl in
     let f = shape_voluminous ds (omega arith) (omega arith) c.in_ok-check_dims.ensures (omega (arith, v, c.in_default.ensures)) in
     record { answer = f; limits = accepts_limits {S = Shape} ds shape_refusal (Err Volume) f }
 
 pub returns-in_default-product_within : goal.returns-in_default-product_within
 returns-in_default-product_within c =
     let ds = c.args.dims.now in
-    let v : product c.six_edges.result ≡ volume ds = ap product c.six_edges.ensures ∙ all_product ds c.filled_up-all.result c.filled_up-all.ensures (omega arith) (λ (d : Dim). d.edge) refl in
-    let x : product c.six_sizes.result ≡ extent ds = ap product c.six_sizes.ensures ∙ all_product ds c.filled_up-all.result c.filled_up-all.ensures (omega arith) (λ (d : Dim). d.size) refl in
+    let v : product c.map.result ≡ volume ds = ap product (made_map _ (λ (d : Dim). d.edge) none_dim 0 c.filled_up-all.result c.map.result c.map.ensures.items (long ds c.filled_up-all.result c.filled_up-all.ensures (omega arith)) (λ k y q l b. search (rules, tests))) ∙ all_product ds c.filled_up-all.result c.filled_up-all.ensures (omega arith) (λ (d : Dim). d.edge) refl in
+    let x : product c.map-2.result ≡ extent ds = ap product (made_map _ (λ (d : Dim). d.size) none_dim 0 c.filled_up-all.result c.map-2.result c.map-2.ensures.items (long ds c.filled_up-all.result c.filled_up-all.ensures (omega arith)) (λ k y q l b. search (rules, tests))) ∙ all_product ds c.filled_up-all.result c.filled_up-all.ensures (omega arith) (λ (d : Dim). d.size) refl in
     let k = c.in-Some.ensures in
     let f = shape_extensive ds (omega arith) (omega arith) c.in_ok-check_dims.ensures (omega (arith, v)) (omega (arith, x, c.in_default-product_within.ensures)) in
     record { answer = f; limits = accepts_limits {S = Shape} ds shape_refusal (Err Extent) f }
@@ -52,7 +54,7 @@ returns-in_default-product_within c =
 pub nonzero_div-result : goal.nonzero_div-result
 nonzero_div-result c =
     let ds = c.args.dims.now in
-    let v : product c.six_edges.result ≡ volume ds = ap product c.six_edges.ensures ∙ all_product ds c.filled_up-all.result c.filled_up-all.ensures (omega arith) (λ (d : Dim). d.edge) refl in
+    let v : product c.map.result ≡ volume ds = ap product (made_map _ (λ (d : Dim). d.edge) none_dim 0 c.filled_up-all.result c.map.result c.map.ensures.items (long ds c.filled_up-all.result c.filled_up-all.ensures (omega arith)) (λ k y q l b. search (rules, tests))) ∙ all_product ds c.filled_up-all.result c.filled_up-all.ensures (omega arith) (λ (d : Dim). d.edge) refl in
     let k = c.in-Some.ensures in
     let one = cells_some ds c.filled_up-all.result c.filled_up-all.ensures (omega arith) c.in_ok-check_dims.ensures in
     omega arith
@@ -65,8 +67,8 @@ invariant_of-result c =
     let few : length ds ≤ 6 = omega arith in
     let sound = c.in_ok-check_dims.ensures in
     let t : take (length ds) all ≡ ds = taken ds all is_six few in
-    let v : c.in-Some.cells ≡ volume ds = c.in-Some.ensures.0 ∙ (ap product c.six_edges.ensures ∙ all_product ds all is_six few (λ (d : Dim). d.edge) refl) in
-    let x : c.in-Some-product_within.extent ≡ extent ds = c.in-Some-product_within.ensures.0 ∙ (ap product c.six_sizes.ensures ∙ all_product ds all is_six few (λ (d : Dim). d.size) refl) in
+    let v : c.in-Some.cells ≡ volume ds = c.in-Some.ensures.0 ∙ (ap product (made_map _ (λ (d : Dim). d.edge) none_dim 0 c.filled_up-all.result c.map.result c.map.ensures.items (long ds c.filled_up-all.result c.filled_up-all.ensures (omega arith)) (λ k y q l b. search (rules, tests))) ∙ all_product ds all is_six few (λ (d : Dim). d.edge) refl) in
+    let x : c.in-Some-product_within.extent ≡ extent ds = c.in-Some-product_within.ensures.0 ∙ (ap product (made_map _ (λ (d : Dim). d.size) none_dim 0 c.filled_up-all.result c.map-2.result c.map-2.ensures.items (long ds c.filled_up-all.result c.filled_up-all.ensures (omega arith)) (λ k y q l b. search (rules, tests))) ∙ all_product ds all is_six few (λ (d : Dim). d.size) refl) in
     let v_low = c.in-Some.ensures.1 in
     let x_low = c.in-Some-product_within.ensures.1 in
     let v_at : volume (take (length ds) all) ≡ volume ds = ap volume t in
@@ -89,8 +91,8 @@ returns c =
     let is_six = c.filled_up-all.ensures in
     let few : length ds ≤ 6 = omega arith in
     let sound = c.in_ok-check_dims.ensures in
-    let v : c.in-Some.cells ≡ volume ds = c.in-Some.ensures.0 ∙ (ap product c.six_edges.ensures ∙ all_product ds all is_six few (λ (d : Dim). d.edge) refl) in
-    let x : c.in-Some-product_within.extent ≡ extent ds = c.in-Some-product_within.ensures.0 ∙ (ap product c.six_sizes.ensures ∙ all_product ds all is_six few (λ (d : Dim). d.size) refl) in
+    let v : c.in-Some.cells ≡ volume ds = c.in-Some.ensures.0 ∙ (ap product (made_map _ (λ (d : Dim). d.edge) none_dim 0 c.filled_up-all.result c.map.result c.map.ensures.items (long ds c.filled_up-all.result c.filled_up-all.ensures (omega arith)) (λ k y q l b. search (rules, tests))) ∙ all_product ds all is_six few (λ (d : Dim). d.edge) refl) in
+    let x : c.in-Some-product_within.extent ≡ extent ds = c.in-Some-product_within.ensures.0 ∙ (ap product (made_map _ (λ (d : Dim). d.size) none_dim 0 c.filled_up-all.result c.map-2.result c.map-2.ensures.items (long ds c.filled_up-all.result c.filled_up-all.ensures (omega arith)) (λ k y q l b. search (rules, tests))) ∙ all_product ds all is_six few (λ (d : Dim). d.size) refl) in
     let v_low = c.in-Some.ensures.1 in
     let x_low = c.in-Some-product_within.ensures.1 in
     let f = shape_good ds (omega arith) few sound (omega (arith, v)) (omega (arith, x)) in

@@ -1,6 +1,0 @@
-use Rattle.std.proofs.Common.{rules}
-use Rattle.measures.specs.Totals.{total_ext}
-use Rattle.measures.proofs.measure.TotalMeasure.lift.Goals as goal
-
-pub returns : goal.returns
-returns c = total_ext _ _ (search rules) (search rules)
