@@ -43,15 +43,18 @@ fn checked_pair(raw: &[u8], k: u16, low: usize, cells: usize) -> Result<(usize, 
         (λ e. pair_fault cells k low (pair_at raw.now (6 * k)) ≡ Some (body_fault e)) }
 {
     let at = 6 * usize::from(k);
-    let entry = u32::from(k);
-    let offset = checked_offset(half_at(raw, at), low, cells).ok_or(BodyFault {
-        cause: BodyCause::Offset,
-        entry,
-    })?;
-    let reading = Reading::new(word_at(raw, at + 2)).ok_or(BodyFault {
-        cause: BodyCause::Reading,
-        entry,
-    })?;
+    let Some(offset) = checked_offset(half_at(raw, at), low, cells) else {
+        return Err(BodyFault {
+            cause: BodyCause::Offset,
+            entry: u32::from(k),
+        });
+    };
+    let Some(reading) = Reading::new(word_at(raw, at + 2)) else {
+        return Err(BodyFault {
+            cause: BodyCause::Reading,
+            entry: u32::from(k),
+        });
+    };
     Ok((offset, reading))
 }
 

@@ -16,11 +16,13 @@ fn read_mark(bytes: &[u8]) -> Result<(u8, &[u8]), FileRefusal>
         (λ p. (head_fault bytes.now ≡ None) × (p.0 ≡ slice_index bytes.now 1) × (p.1.now ≡ drop 4 bytes.now))
         (λ e. head_fault bytes.now ≡ Some (file_refusal e)) }
 {
-    match bytes {
-        [1, n, 0, 0, rest @ ..] => Ok((*n, rest)),
-        [_, _, _, _, ..] => Err(FileRefusal::Mark),
-        _ => Err(FileRefusal::Short),
+    let [version, n, zero_a, zero_b, rest @ ..] = bytes else {
+        return Err(FileRefusal::Short);
+    };
+    if *version != 1 || *zero_a != 0 || *zero_b != 0 {
+        return Err(FileRefusal::Mark);
     }
+    Ok((*n, rest))
 }
 
 // Six dimensions. Where the bytes end early, the last ones mean nothing.

@@ -25,7 +25,7 @@ after_is ds i = ap (λ bs. get_or bs i none_block) (sym (handing_is ds))
 
 module _ (s : State) (m : ℕ) (e : s.control.next ≡ Some m) (at : List ℕ) (is : NextAt s.control m at) where
   next_coordinates : List ℕ
-  next_coordinates = scan_digits (places_of (ds s)) (radix (group (length (ds s)) m) (counts (ds s))) (handed_at s.control.counts m)
+  next_coordinates = scan_digits (places_of (ds s)) (radix (group (length (ds s)) m) (counts (ds s))) (handed_at s.control.progress.counts m)
 
   coordinates_below : Below (radix (group (length (ds s)) m) (counts (ds s))) next_coordinates
   unfolding next_coordinates

@@ -68,9 +68,9 @@ module _ (ds : List Dim) (place : ℕ → ℕ) (adds : Group → ℕ) (c : Contr
 
   -- no block waits: the next block is the root's of the next chunk, or there is none
   next_top : c.next ≡ None → c.passed < total_chunks ds → next_group ds place adds all c.handed ≡ group n (2 ^ n - 1)
-  next_top e l = ap (λ b. b.of) ((progress_laws ds place adds all S).next (suc c.passed) c.handed (2 ^ n - 1) (counts_in n c.counts) (omega (arith, pow_pos n)) (omega arith)
-      ((progress_laws ds place adds all S).pass c.passed c.handed (counts_in n c.counts)
-      (subst (λ o. Progress ds place adds all c.passed c.handed o (counts_in n c.counts)) e (progress ds place adds c s))) none_block)
+  next_top e l = ap (λ b. b.of) ((progress_laws ds place adds all S).next (suc c.passed) c.handed (2 ^ n - 1) (counts_in n c.progress.counts) (omega (arith, pow_pos n)) (omega arith)
+      ((progress_laws ds place adds all S).pass c.passed c.handed (counts_in n c.progress.counts)
+      (subst (λ o. Progress ds place adds all c.passed c.handed o (counts_in n c.progress.counts)) e (progress ds place adds c s))) none_block)
 
   next_none : c.next ≡ None → total_chunks ds ≤ c.passed → next_group ds place adds all c.handed ≡ []
   next_none e l =

@@ -81,19 +81,19 @@ module _ (ds : List Dim) (place : ℕ → ℕ) (adds : Group → ℕ) (c : Contr
   next_is None e = s.idle e
   next_is (Some m) e = (next_mask m e, s.next_waits m e, next_of_all m e)
 
-  pub counted : Counted ds place adds (groups (length ds)) c.passed c.handed c.next (counts_in (length ds) c.counts)
+  pub counted : Counted ds place adds (groups (length ds)) c.passed c.handed c.next (counts_in (length ds) c.progress.counts)
   counted = record {
     within = s.within;
     since = s.since;
     until = s.until;
-    tallies = λ m l. count_is (length ds) c.counts m l ∙ s.tallies m l;
-    all_counts = length-counts (length ds) c.counts;
+    tallies = λ m l. count_is (length ds) c.progress.counts m l ∙ s.tallies m l;
+    all_counts = length-counts (length ds) c.progress.counts;
     next = next_is c.next refl;
   }
 
-  pub progress : Progress ds place adds (groups (length ds)) c.passed c.handed c.next (counts_in (length ds) c.counts)
+  pub progress : Progress ds place adds (groups (length ds)) c.passed c.handed c.next (counts_in (length ds) c.progress.counts)
   progress = ((progress_is_counted ds place adds (groups (length ds)) (scanned ds place adds c.tree s.grown) c.passed c.handed c.next
-      (counts_in (length ds) c.counts)).1 counted).2
+      (counts_in (length ds) c.progress.counts)).1 counted).2
 
   pub all_blocks : length (handing ds place adds (groups (length ds))) ≡ block_count ds
   all_blocks = handed_length ds place adds (groups (length ds)) (scanned ds place adds c.tree s.grown) (groups_have (length ds))
@@ -102,20 +102,20 @@ module _ (ds : List Dim) (place : ℕ → ℕ) (adds : Group → ℕ) (c : Contr
   handed_few = omega (arith, s.until, released_few, all_blocks, blocks_few ds s.grown.limits)
 
 pub controls_from : (ds : List Dim) (place : ℕ → ℕ) (adds : Group → ℕ) (c : Control) → Grown ds place adds c.tree → c.passed ≤ total_chunks ds
-    → MaskWithin (length ds) c.next → Progress ds place adds (groups (length ds)) c.passed c.handed c.next (counts_in (length ds) c.counts) → Controls ds place adds c
+    → MaskWithin (length ds) c.next → Progress ds place adds (groups (length ds)) c.passed c.handed c.next (counts_in (length ds) c.progress.counts) → Controls ds place adds c
 controls_from ds place adds c g l w p = record {
   grown = g;
   within = it.within;
   since = it.since;
   until = it.until;
-  tallies = λ m b. sym (count_is (length ds) c.counts m b) ∙ it.tallies m b;
+  tallies = λ m b. sym (count_is (length ds) c.progress.counts m b) ∙ it.tallies m b;
   idle = λ e. subst (IsNext ds place adds (groups (length ds)) c.passed c.handed) e it.next;
   next_waits = λ m e. (at m e).1;
   next_of = λ m e. ap mask ((at m e).2 (record { of = []; at = [] })) ∙ mask-group (length ds) m (at m e).0;
 }
   where
-    it : Counted ds place adds (groups (length ds)) c.passed c.handed c.next (counts_in (length ds) c.counts)
-    it = (progress_is_counted ds place adds (groups (length ds)) (scanned ds place adds c.tree g) c.passed c.handed c.next (counts_in (length ds) c.counts)).0 (l, w, p)
+    it : Counted ds place adds (groups (length ds)) c.passed c.handed c.next (counts_in (length ds) c.progress.counts)
+    it = (progress_is_counted ds place adds (groups (length ds)) (scanned ds place adds c.tree g) c.passed c.handed c.next (counts_in (length ds) c.progress.counts)).0 (l, w, p)
 
     at : (m : ℕ) → c.next ≡ Some m → IsNext ds place adds (groups (length ds)) c.passed c.handed (Some m)
     at m e = subst (IsNext ds place adds (groups (length ds)) c.passed c.handed) e it.next
@@ -129,13 +129,13 @@ counted_as ds place adds t u k l o p xs ys et ek eo ex here =
 
 -- a chunk is passed: the root is next
 pub controls_pass : (ds : List Dim) (place : ℕ → ℕ) (adds : Group → ℕ) (c a : Control) (r : ℕ) → Controls ds place adds c → c.next ≡ None → c.passed < c.tree.total
-    → r + 1 ≡ 2 ^ c.tree.n → a.tree ≡ c.tree → a.counts ≡ c.counts → a.passed ≡ c.passed + 1 → a.handed ≡ c.handed → a.next ≡ Some r → Controls ds place adds a
+    → r + 1 ≡ 2 ^ c.tree.n → a.tree ≡ c.tree → a.progress.counts ≡ c.progress.counts → a.passed ≡ c.passed + 1 → a.handed ≡ c.handed → a.next ≡ Some r → Controls ds place adds a
 controls_pass ds place adds c a r s e l q tree_is counts_are passed_is handed_is next_is = controls_from ds place adds a (subst (Grown ds place adds) (sym tree_is) s.grown)
     (omega (arith, s.grown.total)) (subst (MaskWithin (length ds)) (sym next_is) (omega (arith, same_groups ds place adds c.tree s.grown)))
-    (counted_as ds place adds (suc c.passed) a.passed c.handed a.handed (Some (2 ^ length ds - 1)) a.next (counts_in (length ds) c.counts) (counts_in (length ds) a.counts)
+    (counted_as ds place adds (suc c.passed) a.passed c.handed a.handed (Some (2 ^ length ds - 1)) a.next (counts_in (length ds) c.progress.counts) (counts_in (length ds) a.progress.counts)
     (omega arith) (sym handed_is) (ap Some root ∙ sym next_is) (ap (counts_in (length ds)) (sym counts_are))
-    ((progress_laws ds place adds (groups (length ds)) (scanned ds place adds c.tree s.grown)).pass c.passed c.handed (counts_in (length ds) c.counts)
-    (subst (λ o. Progress ds place adds (groups (length ds)) c.passed c.handed o (counts_in (length ds) c.counts)) e (progress ds place adds c s))))
+    ((progress_laws ds place adds (groups (length ds)) (scanned ds place adds c.tree s.grown)).pass c.passed c.handed (counts_in (length ds) c.progress.counts)
+    (subst (λ o. Progress ds place adds (groups (length ds)) c.passed c.handed o (counts_in (length ds) c.progress.counts)) e (progress ds place adds c s))))
   where
     root : 2 ^ length ds - 1 ≡ r
     root = omega (arith, same_groups ds place adds c.tree s.grown)
@@ -145,8 +145,8 @@ module _ (ds : List Dim) (place : ℕ → ℕ) (adds : Group → ℕ) (c : Contr
   is_next : IsNext ds place adds (groups (length ds)) c.passed c.handed (Some m)
   is_next = next_is ds place adds c s (Some m) e
 
-  waits_now : Progress ds place adds (groups (length ds)) c.passed c.handed (Some m) (counts_in (length ds) c.counts)
-  waits_now = subst (λ o. Progress ds place adds (groups (length ds)) c.passed c.handed o (counts_in (length ds) c.counts)) e (progress ds place adds c s)
+  waits_now : Progress ds place adds (groups (length ds)) c.passed c.handed (Some m) (counts_in (length ds) c.progress.counts)
+  waits_now = subst (λ o. Progress ds place adds (groups (length ds)) c.passed c.handed o (counts_in (length ds) c.progress.counts)) e (progress ds place adds c s)
 
   pub next_below : m < 2 ^ c.tree.n
   next_below = c.in_tree m e
@@ -154,14 +154,14 @@ module _ (ds : List Dim) (place : ℕ → ℕ) (adds : Group → ℕ) (c : Contr
   pub mask_small : m < 64
   mask_small = omega (arith, next_below, c.tree.few)
 
-  count_now : get_or (counts_in (length ds) c.counts) m 0 ≡ handed_at c.counts m
-  count_now = count_is (length ds) c.counts m is_next.0
+  count_now : get_or (counts_in (length ds) c.progress.counts) m 0 ≡ handed_at c.progress.counts m
+  count_now = count_is (length ds) c.progress.counts m is_next.0
 
-  pub count_small : handed_at c.counts m < 2 ^ 34
+  pub count_small : handed_at c.progress.counts m < 2 ^ 34
   count_small = omega (
     arith,
     count_now,
-    ((progress_laws ds place adds (groups (length ds)) (scanned ds place adds c.tree s.grown)).next_is c.passed c.handed m (counts_in (length ds) c.counts)
+    ((progress_laws ds place adds (groups (length ds)) (scanned ds place adds c.tree s.grown)).next_is c.passed c.handed m (counts_in (length ds) c.progress.counts)
         is_next.0 s.within waits_now).1,
     block_radix_small ds place adds c.tree s.grown m,
   )
@@ -169,53 +169,53 @@ module _ (ds : List Dim) (place : ℕ → ℕ) (adds : Group → ℕ) (c : Contr
   pub some_released : c.handed < released ds place adds (groups (length ds)) c.passed
   some_released = is_next.1
 
-  pub block_is : (k : ℕ) → k ≡ handed_at c.counts m → (b : Block) → get_or (handing ds place adds (groups (length ds))) c.handed b
+  pub block_is : (k : ℕ) → k ≡ handed_at c.progress.counts m → (b : Block) → get_or (handing ds place adds (groups (length ds))) c.handed b
       ≡ record { of = group (length ds) m; at = scan_digits place (radix (group (length ds) m) (counts ds)) k }
   block_is k q b = (progress_laws ds place adds (groups (length ds)) (scanned ds place adds c.tree s.grown)).next c.passed c.handed m
-      (counts_in (length ds) c.counts) is_next.0 s.within waits_now b
+      (counts_in (length ds) c.progress.counts) is_next.0 s.within waits_now b
       ∙ ap (λ x. record { of = group (length ds) m; at = scan_digits place (radix (group (length ds) m) (counts ds)) x }) (count_now ∙ sym q)
 
-  pub coordinates_next : (k : ℕ) (r : List ℕ) → k ≡ handed_at c.counts m → r ≡ six 0 (scan_digits place (radix (group (length ds) m) (counts ds)) k) → (b : Block)
+  pub coordinates_next : (k : ℕ) (r : List ℕ) → k ≡ handed_at c.progress.counts m → r ≡ six 0 (scan_digits place (radix (group (length ds) m) (counts ds)) k) → (b : Block)
       → ((get_or (handing ds place adds (groups (length ds))) c.handed b).of ≡ group (length ds) m)
       × (r ≡ six 0 (get_or (handing ds place adds (groups (length ds))) c.handed b).at)
   coordinates_next k r q is b = (ap (λ x. x.of) (block_is k q b), is ∙ ap (six 0) (sym (ap (λ x. x.at) (block_is k q b))))
 
-  pub next_within : Below (radix (group (length ds) m) (counts ds)) (scan_digits place (radix (group (length ds) m) (counts ds)) (handed_at c.counts m))
-  next_within = block_within ds place (limits_edged ds s.grown.limits) s.grown.order (group (length ds) m) (length-group (length ds) m) (handed_at c.counts m)
+  pub next_within : Below (radix (group (length ds) m) (counts ds)) (scan_digits place (radix (group (length ds) m) (counts ds)) (handed_at c.progress.counts m))
+  next_within = block_within ds place (limits_edged ds s.grown.limits) s.grown.order (group (length ds) m) (length-group (length ds) m) (handed_at c.progress.counts m)
 
   pub next_filled : (r : List ℕ) → ((b : Block) → ((get_or (handing ds place adds (groups (length ds))) c.handed b).of ≡ group (length ds) m)
       × (r ≡ six 0 (get_or (handing ds place adds (groups (length ds))) c.handed b).at))
-      → r ≡ six 0 (scan_digits place (radix (group (length ds) m) (counts ds)) (handed_at c.counts m))
-  next_filled r is = let b : Block = record { of = []; at = [] } in (is b).1 ∙ ap (λ x. six 0 x.at) (block_is (handed_at c.counts m) refl b)
+      → r ≡ six 0 (scan_digits place (radix (group (length ds) m) (counts ds)) (handed_at c.progress.counts m))
+  next_filled r is = let b : Block = record { of = []; at = [] } in (is b).1 ∙ ap (λ x. six 0 x.at) (block_is (handed_at c.progress.counts m) refl b)
 
-  pub named_next : (k : ℕ) → k ≡ number (radix (group (length ds) m) (counts ds)) (scan_digits place (radix (group (length ds) m) (counts ds)) (handed_at c.counts m))
+  pub named_next : (k : ℕ) → k ≡ number (radix (group (length ds) m) (counts ds)) (scan_digits place (radix (group (length ds) m) (counts ds)) (handed_at c.progress.counts m))
       → (b : Block) → (m, k) ≡ named ds (get_or (handing ds place adds (groups (length ds))) c.handed b)
   named_next k q b =
       let pair : ℕ → ℕ → ℕ × ℕ = λ x y. (x, y) in
       ap (pair m) q
-      ∙ (ap (λ x. pair x (number (radix (group (length ds) m) (counts ds)) (scan_digits place (radix (group (length ds) m) (counts ds)) (handed_at c.counts m))))
+      ∙ (ap (λ x. pair x (number (radix (group (length ds) m) (counts ds)) (scan_digits place (radix (group (length ds) m) (counts ds)) (handed_at c.progress.counts m))))
       (sym (mask-group (length ds) m is_next.0))
-      ∙ ap (named ds) (sym (block_is (handed_at c.counts m) refl b)))
+      ∙ ap (named ds) (sym (block_is (handed_at c.progress.counts m) refl b)))
 
   -- it is handed out
-  pub controls_hand : (a : Control) → a.tree ≡ c.tree → a.counts ≡ set c.counts m (get_or c.counts m 0 + 1) → a.passed ≡ c.passed → a.handed ≡ c.handed + 1
-      → Seen c.tree c.passed a.counts m a.next → Controls ds place adds a
+  pub controls_hand : (a : Control) → a.tree ≡ c.tree → a.progress.counts ≡ set c.progress.counts m (get_or c.progress.counts m 0 + 1) → a.passed ≡ c.passed → a.handed ≡ c.handed + 1
+      → Seen c.tree c.passed a.progress.counts m a.next → Controls ds place adds a
   unfolding next_seen
   controls_hand a tree_is counts_are passed_is handed_is (inside, is) = controls_from ds place adds a (subst (Grown ds place adds) (sym tree_is) s.grown)
       (omega (arith, s.within)) (subst (λ k. MaskWithin k a.next) s.grown.dimensions inside)
-      (counted_as ds place adds c.passed a.passed (suc c.handed) a.handed a.next a.next (set cs m (suc (get_or cs m 0))) (counts_in (length ds) a.counts)
+      (counted_as ds place adds c.passed a.passed (suc c.handed) a.handed a.next a.next (set cs m (suc (get_or cs m 0))) (counts_in (length ds) a.progress.counts)
       (sym passed_is) (omega arith) refl moved
       ((progress_laws ds place adds (groups (length ds)) (scanned ds place adds c.tree s.grown)).hand c.passed c.handed m cs a.next is_next.0 waits_now
       (subst (λ xs. group_at (length ds) a.next ≡ seen_with xs) (sym moved) (is ds place adds s.grown))))
     where
       cs : List ℕ
-      cs = counts_in (length ds) c.counts
+      cs = counts_in (length ds) c.progress.counts
 
       seen_with : List ℕ → Option Group
       seen_with xs = next_from (tree ds place adds (groups (length ds))) c.passed (suc (length ds)) (table_of xs) (group (length ds) m)
 
-      moved : set cs m (suc (get_or cs m 0)) ≡ counts_in (length ds) a.counts
-      moved = counts_more (length ds) c.counts m is_next.0 (omega (arith, mask_small, c.all_counts)) ∙ ap (counts_in (length ds)) (sym counts_are)
+      moved : set cs m (suc (get_or cs m 0)) ≡ counts_in (length ds) a.progress.counts
+      moved = counts_more (length ds) c.progress.counts m is_next.0 (omega (arith, mask_small, c.all_counts)) ∙ ap (counts_in (length ds)) (sym counts_are)
 
 -- done
 module _ (ds : List Dim) (place : ℕ → ℕ) (adds : Group → ℕ) (c : Control) (s : Controls ds place adds c) where

@@ -61,7 +61,7 @@ pub record Controls (ds : List Dim) (place : ℕ → ℕ) (adds : Group → ℕ)
   pub since : (u : ℕ) → suc u ≡ c.passed → released ds place adds (groups (length ds)) u ≤ c.handed
   pub until : c.handed ≤ released ds place adds (groups (length ds)) c.passed
   pub tallies : (m : ℕ) → m < 2 ^ length ds
-      → handed_at c.counts m ≡ tally (take c.handed (handing ds place adds (groups (length ds)))) (group (length ds) m)
+      → handed_at c.progress.counts m ≡ tally (take c.handed (handing ds place adds (groups (length ds)))) (group (length ds) m)
   pub idle : c.next ≡ None → c.handed ≡ released ds place adds (groups (length ds)) c.passed
   pub next_waits : (m : ℕ) → c.next ≡ Some m → c.handed < released ds place adds (groups (length ds)) c.passed
   pub next_of : (m : ℕ) → c.next ≡ Some m → mask (next_group ds place adds (groups (length ds)) c.handed) ≡ m

@@ -14,6 +14,7 @@ mod emptying;
 mod handing;
 mod layouts;
 mod numbering;
+mod progress;
 mod refusals;
 mod regions;
 mod run;

@@ -5,6 +5,7 @@ ghost use Rattle.runs.specs.Controls.{Advances, DoneExactly, FirstChild, Here, I
 
 use crate::control::Control;
 use crate::numbering::Block;
+use crate::progress::Progress;
 use crate::tree::Tree;
 
 // Masks are plain numbers, as in `regions`, so that each is below the number of groups is asked where one comes in.
@@ -15,7 +16,7 @@ impl Control {
     {
         Control {
             tree,
-            counts: [0; 64],
+            progress: Progress { counts: [0; 64] },
             passed: 0,
             handed: 0,
             next: None,
@@ -43,16 +44,16 @@ impl Control {
     // Whether a block of a group but the root waits.
     fn is_behind(&self, mask: usize) -> bool
         requires { mask + 1 < 2 ^ self.now.tree.n }
-        ensures { result ≡ waiting self.now.tree self.now.counts mask }
+        ensures { result ≡ waiting self.now.tree self.now.progress.counts mask }
     {
         let node = self.tree.nodes[mask];
-        self.counts[mask] < self.counts[node.up] / node.period * node.share
+        self.progress.counts[mask] < self.progress.counts[node.up] / node.period * node.share
     }
 
     // The first child of a group that waits, by rising mask.
     fn first_child(&self, mask: usize) -> Option<usize>
         requires { mask < 2 ^ self.now.tree.n }
-        ensures { FirstChild self.now.tree self.now.counts mask result }
+        ensures { FirstChild self.now.tree self.now.progress.counts mask result }
     {
         (0..mask).find(|m| self.tree.nodes[*m].up == mask && self.is_behind(*m))
     }
@@ -60,10 +61,10 @@ impl Control {
     // Whether a block of a group waits.
     fn waits_at(&self, mask: usize) -> bool
         requires { mask < 2 ^ self.now.tree.n }
-        ensures { result ≡ is_waiting self.now.tree self.now.passed self.now.counts mask }
+        ensures { result ≡ is_waiting self.now.tree self.now.passed self.now.progress.counts mask }
     {
         if mask == self.tree.root() {
-            self.counts[mask] < self.passed
+            self.progress.counts[mask] < self.passed
         } else {
             self.is_behind(mask)
         }
@@ -72,7 +73,7 @@ impl Control {
     // The first child of a group that waits, else the group if it waits.
     fn next_here(&self, mask: usize) -> Option<usize>
         requires { mask < 2 ^ self.now.tree.n }
-        ensures { Here self.now.tree self.now.passed self.now.counts mask result }
+        ensures { Here self.now.tree self.now.passed self.now.progress.counts mask result }
     {
         self.first_child(mask)
             .or_else(|| self.waits_at(mask).then_some(mask))
@@ -82,7 +83,7 @@ impl Control {
     // The climb is a loop whose measure is the mask, which rises: `successors` promises no end.
     fn next_from(&self, from: usize) -> Option<usize>
         requires { from < 2 ^ self.now.tree.n }
-        ensures { Seen self.now.tree self.now.passed self.now.counts from result }
+        ensures { Seen self.now.tree self.now.passed self.now.progress.counts from result }
     {
         let root = self.tree.root();
         let mut mask = from;
@@ -103,7 +104,7 @@ impl Control {
         ensures at { NextAt self.now mask result.at }
         ensures number { NumberOf self.now.tree mask result.at result.number }
     {
-        self.tree.block(mask as u32, self.counts[mask])
+        self.tree.block(mask as u32, self.progress.counts[mask])
     }
 
     // The block that is next, by its mask and its block number.
@@ -121,7 +122,7 @@ impl Control {
         ensures { Advances self.old self.new }
     {
         if let Some(mask) = self.next {
-            self.counts[mask] += 1;
+            self.progress.count(mask);
             self.handed += 1;
             self.next = self.next_from(mask);
         }

@@ -12,6 +12,6 @@ returns c = λ ds place adds s.
     let self = c.args.self.now in (
       some_released ds place adds self s m e,
       named_next ds place adds self s m e c.next_at.result.number
-          (c.next_at.ensures.number ds place adds s.grown (scan_digits place (radix (group (length ds) m) (counts ds)) (handed_at self.counts m)) (next_within ds place adds self s m e)
+          (c.next_at.ensures.number ds place adds s.grown (scan_digits place (radix (group (length ds) m) (counts ds)) (handed_at self.progress.counts m)) (next_within ds place adds self s m e)
           (next_filled ds place adds self s m e c.next_at.result.at (c.next_at.ensures.at ds place adds s))),
     )
