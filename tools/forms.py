@@ -1,5 +1,5 @@
 #!/usr/bin/env python3
-"""Finds places where the source could be written in a newer form, by the points of docs/DESIGN-PASS.md.
+"""Finds places where the source could be written in a newer form, by the kinds of docs/DESIGN-PASS.md.
 
     python3 tools/forms.py            counts, for the files as they lie here
     python3 tools/forms.py COMMIT     the same for a commit
@@ -68,16 +68,33 @@ def blocks(body):
             yield i, line.strip(), '\n'.join(lines[i + 1:j])
 
 
-def numbers_for_kinds(name, text):
+def lines_with(text, patterns):
+    """Each line of a text once for each of the patterns that stands in it, with its number."""
     for n, line in enumerate(text.split('\n'), 1):
-        if re.search(r'\b(kind|cause|code|state): u(8|16|32)\b', line):
-            yield n, line
-        if re.match(r'pub fn \w+\(\) -> u8$', line):
-            yield n, line
-        if re.search(r'\bErr\(\w+\) => Err\(|\bOk\(\(\)\) => Ok\(\(\)\)|Err\(_\) => unreachable', line):
-            yield n, line
-        if re.search(r'\b(kind|cause) (==|<=|>=) \d', line):
-            yield n, line
+        for pattern in patterns:
+            if re.search(pattern, line):
+                yield n, line
+
+
+# numbers for kinds and causes, functions that answer a number for nothing, errors mapped by hand
+NUMBERED = (
+    r'\b(kind|cause|code|state): u(8|16|32)\b',
+    r'^pub fn \w+\(\) -> u8$',
+    r'\bErr\(\w+\) => Err\(|\bOk\(\(\)\) => Ok\(\(\)\)|Err\(_\) => unreachable',
+    r'\b(kind|cause) (==|<=|>=) \d',
+)
+
+# comparison, flags as numbers, comparisons field by field, a dimension printed
+BY_HAND = (
+    r'impl(<.*>)? (PartialEq|Eq|PartialOrd|Ord|Clone|Copy|Debug|Hash)\b',
+    r'\{ [12] \} else \{ 0 \}',
+    r'^\s*(pub(\(crate\))? )?fn (same_|is_digit|bit\b|\w+_number\(cause)',
+    r'(\w+)\.\w+ == (\w+)\.\w+ && \1\.\w+ == \2\.\w+|\w+ < \w+ \|\| \w+ == \w+ && \w+ < \w+',
+    r'write!\(.*\{size\}/\{edge\}|format!\(.*\{size\}/\{edge\}',
+)
+
+# a function picked by a match, or kept in a table
+SWITCHES = (r'\w+::\w+ => \w+(::<\w+>)?\((heap|bytes|cells)|:\s*fn\(',)
 
 
 def shape_of(body):
@@ -88,7 +105,7 @@ def shape_of(body):
     return re.sub(r'\s+', ' ', re.sub(r'\w+', word, body)).strip()
 
 
-def index_loops(name, text):
+def index_loops(text):
     for start, fname, head, body in functions(text):
         first = start + head.count('\n') + 1
         for at, loop, inside in blocks(body):
@@ -99,27 +116,13 @@ def index_loops(name, text):
                 yield first + at, f'{fname}: {loop}'
 
 
-def by_hand(name, text):
-    for n, line in enumerate(text.split('\n'), 1):
-        if re.search(r'impl(<.*>)? (PartialEq|Eq|PartialOrd|Ord|Clone|Copy|Debug|Hash)\b', line):
-            yield n, line
-        if re.search(r'\{ [12] \} else \{ 0 \}', line):
-            yield n, line
-        if re.match(r'\s*(pub(\(crate\))? )?fn (same_|is_digit|bit\b|\w+_number\(cause)', line):
-            yield n, line
-        if re.search(r'(\w+)\.\w+ == (\w+)\.\w+ && \1\.\w+ == \2\.\w+|\w+ < \w+ \|\| \w+ == \w+ && \w+ < \w+', line):
-            yield n, line
-        if re.search(r'write!\(.*\{size\}/\{edge\}|format!\(.*\{size\}/\{edge\}', line):
-            yield n, line
-
-
 def fields(text):
     for found in re.finditer(r'struct (\w+)[^{;]*\{\n(.*?)\n\}', text, re.S):
         line = text[:found.start()].count('\n') + 1
         yield line, found.group(1), [f.strip() for f in found.group(2).split('\n')]
 
 
-def beside(name, text):
+def beside(text):
     for line, struct, fs in fields(text):
         arrays = [re.search(r'(\w+): \[[^;\]]+; (\w+)\]', f) for f in fs if 'ghost' not in f]
         sizes = defaultdict(list)
@@ -135,12 +138,6 @@ def beside(name, text):
             yield line, f'{struct}: an index for a link'
 
 
-def switches(name, text):
-    for n, line in enumerate(text.split('\n'), 1):
-        if re.search(r'\w+::\w+ => \w+(::<\w+>)?\((heap|bytes|cells)', line) or re.search(r':\s*fn\(', line):
-            yield n, line
-
-
 def main():
     args = [a for a in sys.argv[1:] if a != '-v']
     verbose = '-v' in sys.argv
@@ -151,9 +148,15 @@ def main():
     params = defaultdict(list)
     for name, text in files(commit):
         crate = name.split('/')[1]
-        for point, find in ((1, numbers_for_kinds), (3, index_loops), (4, by_hand), (6, beside), (7, switches)):
-            for line, what in find(name, text):
-                found[point].append(f'{name}:{line}: {what.strip()}')
+        places = {
+            'kinds': lines_with(text, NUMBERED),
+            'loops': index_loops(text),
+            'by hand': lines_with(text, BY_HAND),
+            'lengths': beside(text),
+            'switches': lines_with(text, SWITCHES),
+        }
+        for kind, at in places.items():
+            found[kind] += [f'{name}:{line}: {what.strip()}' for line, what in at]
         for line, fname, head, body in functions(text):
             shape = shape_of(body)
             if shape and len(re.findall(r'\w+|[^\w\s]', shape)) >= 7:
@@ -168,17 +171,17 @@ def main():
     for shape, where in shapes.items():
         if len(where) > 1:
             for w in where:
-                found[2].append(f'{w}   [with {len(where) - 1} more]')
+                found['twins'].append(f'{w}   [with {len(where) - 1} more]')
     for (crate, clause), where in clauses.items():
         if len(where) > 2:
-            found[5].append(f'{crate}: `{clause}` in {len(where)}: ' + ', '.join(w.split(': ')[-1] for w in where))
+            found['facts'].append(f'{crate}: `{clause}` in {len(where)}: ' + ', '.join(w.split(': ')[-1] for w in where))
     for (crate, ps), where in params.items():
         if len(where) > 2:
-            found[5].append(f'{crate}: ({", ".join(ps)}) in {len(where)}: ' + ', '.join(w.split(': ')[-1] for w in where))
-    for point in range(1, 8):
-        print(f'point {point}: {len(found[point])}')
+            found['facts'].append(f'{crate}: ({", ".join(ps)}) in {len(where)}: ' + ', '.join(w.split(': ')[-1] for w in where))
+    for kind in ('kinds', 'twins', 'loops', 'by hand', 'facts', 'lengths', 'switches'):
+        print(f'{kind}: {len(found[kind])}')
         if verbose:
-            for f in sorted(found[point]):
+            for f in sorted(found[kind]):
                 print('   ', f)
 
 

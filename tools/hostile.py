@@ -1,7 +1,7 @@
 #!/usr/bin/env python3
 """Tries the built listing program on files of every kind, and compares what it prints with an independent model.
 
-    hostile.py [COUNT [SEED]]     COUNT files, 30,000 where none is told; SEED 1
+    hostile.py [COUNT [SEED]]     how many files (30,000 unless told), and what they are made from (one unless told)
 
 A file is whole, or damaged in its bodies, its header, its directory or anywhere, or cut, or lengthened, or random bytes, or random bytes behind
 a sound header; a letter may stand before it. The program must end with status 0 and print just what the model (tools/listing_model.py, which
