@@ -195,6 +195,40 @@ earliest_one p n m e d h k =
     let first = earliest_is p n m h in
     d e (earliest p (group n m)) k.inside first.inside (le_antisymm (k.low (earliest p (group n m)) first.inside first.lacks) (first.low e k.inside k.lacks))
 
+-- a search through the dimensions below i has found one that the group lacks, or none yet
+pub record Found (p : ℕ → ℕ) (n : ℕ) (g : Group) (most i found lowest : ℕ) : Type 0 where
+  pub low : (k : ℕ) → k < i → keeps g k ≡ false → lowest ≤ p k
+  pub one : (lowest ≡ most) ⊎ ((found < n) × (keeps g found ≡ false) × (p found ≡ lowest))
+
+pub found_none : (p : ℕ → ℕ) (n : ℕ) (g : Group) (most found : ℕ) → Found p n g most 0 found most
+found_none p n g most found = record { low = λ k l. absurd (omega arith); one = inl refl }
+
+pub found_same : (p : ℕ → ℕ) (n : ℕ) (g : Group) (most i found lowest found' lowest' : ℕ) → (keeps g i ≡ false → lowest ≤ p i) → found' ≡ found → lowest' ≡ lowest
+    → Found p n g most i found lowest → Found p n g most (i + 1) found' lowest'
+found_same p n g most i found lowest found' lowest' s ef el h = rw (ef, el) (record { low = λ k l. low k (cases_lt k i) l; one = h.one })
+  where
+    low : (k : ℕ) → (k < i) ⊎ (i ≤ k) → k < i + 1 → keeps g k ≡ false → lowest ≤ p k
+    low k (inl a) l = h.low k a
+    low k (inr a) l = let e : i ≡ k = omega arith in rw e at s
+
+pub found_new : (p : ℕ → ℕ) (n : ℕ) (g : Group) (most i found lowest found' lowest' : ℕ) → i < n → keeps g i ≡ false → p i < lowest → found' ≡ i → lowest' ≡ p i
+    → Found p n g most i found lowest → Found p n g most (i + 1) found' lowest'
+found_new p n g most i found lowest found' lowest' l k s ef el h = rw (ef, el) (record { low = λ j b. low j (cases_lt j i) b; one = inr (l, k, refl) })
+  where
+    low : (j : ℕ) → (j < i) ⊎ (i ≤ j) → j < i + 1 → keeps g j ≡ false → p i ≤ p j
+    low j (inl a) b q = omega (arith, h.low j a q)
+    low j (inr a) b q = let e : i ≡ j = omega arith in omega (arith, ap p e)
+
+pub found_all : (p : ℕ → ℕ) (n m : ℕ) (most i found lowest : ℕ) → Distinct p n → ((k : ℕ) → k < n → p k < most) → m + 1 < 2 ^ n → n ≤ i → Found p n (group n m) most i found lowest → (found < n) × (found ≡ earliest p (group n m))
+found_all p n m most i found lowest d small h end f = go f.one
+  where
+    go : (lowest ≡ most) ⊎ ((found < n) × (keeps (group n m) found ≡ false) × (p found ≡ lowest)) → (found < n) × (found ≡ earliest p (group n m))
+    go (inl e) =
+        let first = lowest_lacks n m h in
+        let l = prefix_len (λ kept. kept) (group n m) in
+        absurd (omega (arith, small l first.0, f.low l (omega (arith, first.0)) first.1))
+    go (inr e) = (e.0, earliest_one p n m found d h (record { inside = e.0; lacks = e.1; low = λ k l q. omega (arith, e.2, f.low k (omega arith) q) }))
+
 -- no missing dimension gives fewer cells than the group's own term, and the earliest gives as many
 module _ (D C p : ℕ → ℕ) (n : ℕ) (d : Distinct p n) (c : (i : ℕ) → i < n → C i ≤ D i) where
   pub terms_le : (g : Group) (x : ℕ) → x < n → keeps g x ≡ false → terms D C p n g ≤ times (brings D C p g x) (range_with_len 0 n)

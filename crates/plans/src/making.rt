@@ -1,5 +1,5 @@
 // Making a plan.
-ghost use Rattle.std.specs.Prelude.{◌≡◌, ℕ, ◌+◌, ◌-◌, ◌^◌, ◌<◌, ◌≤◌, map, length, slice_index, if◌then◌else◌, nat_lt};
+ghost use Rattle.std.specs.Prelude.{◌≡◌, ℕ, ◌+◌, ◌-◌, ◌^◌, ◌<◌, ◌≤◌, map, length, slice_index, if◌then◌else◌};
 ghost use Rattle.shapes.specs.Arrays.{volume, extent, numbers, group};
 ghost use Rattle.shapes.specs.Views.{dims_of, six};
 ghost use Rattle.plans.specs.Plans.{Edged, cells, need, plan_place, plan_adds, plan_need, Bounded, Least};
@@ -77,38 +77,41 @@ impl Draft<'_> {
         ensures inside { result < length self.now.dims.now }
     {
         let kept = kept_dimensions(mask);
-        self.places
+        let (found, _) = self
+            .places
             .iter()
             .zip(&kept)
             .enumerate()
-            .filter(|(_, (_, kept))| !**kept)
-            .min_by_key(|(_, (place, _))| **place)
-            .map_or(0, |(i, _)| i)
+            .fold((0, u32::MAX), |best, (i, (place, kept))| {
+                if !*kept && *place < best.1 {
+                    (i, *place)
+                } else {
+                    best
+                }
+            });
+        found
     }
 
-    // The dimension that the parent of the group with this mask adds; 0 for the root and past it.
-    fn added(&self, mask: u32) -> u8
-        ensures { result ≡ (if nat_lt (mask + 1) (2 ^ length self.now.dims.now) then plan_adds self.now.dims.now (group (length self.now.dims.now) mask) else 0) }
-    {
-        if mask < self.others() {
-            return self.earliest_missing(mask) as u8;
-        }
-        0
-    }
-
-    // By mask, the dimension that each group's parent adds.
+    // By mask, the dimension that each group's parent adds; 0 for the root and past it.
     fn adds(&self) -> [u8; 64]
         ensures { (m : ℕ) → m + 1 < 2 ^ length self.now.dims.now → slice_index result m ≡ plan_adds self.now.dims.now (group (length self.now.dims.now) m) }
     {
-        array::from_fn(|mask| self.added(mask as u32))
+        let mut adds = [0; 64];
+        let others = &mut adds[..self.others() as usize];
+        for (mask, added) in others.iter_mut().enumerate() {
+            *added = self.earliest_missing(mask as u32) as u8;
+        }
+        adds
     }
 
-    // The cells of the group with this mask.
-    fn group_cells(&self, mask: u32) -> u64
+    // The cells of the group with this mask, by the dimensions that the groups' parents add.
+    fn group_cells(&self, mask: u32, adds: &[u8; 64]) -> u64
         requires other { mask + 1 < 2 ^ length self.now.dims.now }
+        requires adds { (m : ℕ) → m + 1 < 2 ^ length self.now.dims.now → slice_index adds.now m ≡ plan_adds self.now.dims.now (group (length self.now.dims.now) m) }
         ensures { result ≡ cells self.now.dims.now (plan_place self.now.dims.now) (group (length self.now.dims.now) mask) (plan_adds self.now.dims.now (group (length self.now.dims.now) mask)) }
     {
-        let first = self.places[self.earliest_missing(mask)];
+        let added = usize::from(adds[mask as usize]);
+        let first = self.places[added];
         let kept = kept_dimensions(mask);
         self.dims
             .iter()
@@ -118,12 +121,15 @@ impl Draft<'_> {
             .product()
     }
 
-    // The cells of a chunk for the root, and those of every other group.
-    fn need(&self, chunk: u32) -> u64
-        requires { chunk ≡ volume self.now.dims.now }
+    // The cells of a chunk for the root, and those of every other group, by the dimensions that their parents add.
+    fn need(&self, chunk: u32, adds: &[u8; 64]) -> u64
+        requires chunk { chunk ≡ volume self.now.dims.now }
+        requires adds { (m : ℕ) → m + 1 < 2 ^ length self.now.dims.now → slice_index adds.now m ≡ plan_adds self.now.dims.now (group (length self.now.dims.now) m) }
         ensures { result ≡ plan_need self.now.dims.now }
     {
-        let cells: u64 = (0..self.others()).map(|mask| self.group_cells(mask)).sum();
+        let cells: u64 = (0..self.others())
+            .map(|mask| self.group_cells(mask, adds))
+            .sum();
         u64::from(chunk) + cells
     }
 }
@@ -143,7 +149,7 @@ impl Plan {
             places: &places[..n],
         };
         let adds = draft.adds();
-        let need = draft.need(shape.chunk_cells());
+        let need = draft.need(shape.chunk_cells(), &adds);
         Plan {
             n,
             places,

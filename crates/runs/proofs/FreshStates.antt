@@ -1,5 +1,5 @@
 -- The state of a run before the first chunk, from the plan's tables.
-use Rattle.std.proofs.Common.{◌≡◌, ℕ, ◌+◌, ◌^◌, ◌<◌, List, length, get_or, sym, ap, ◌∙◌, subst}
+use Rattle.std.proofs.Common.{◌≡◌, ℕ, ◌+◌, ◌^◌, ◌<◌, List, length, get_or, sym, ap, ◌∙◌, subst, arith}
 use Rattle.shapes.specs.declared.dims.Dim.{Dim}
 use Rattle.shapes.specs.declared.shape.Shape.{Shape}
 use Rattle.shapes.specs.Arrays.{group}
@@ -11,7 +11,8 @@ use Rattle.plans.specs.Views.{place_in, Planned}
 use Rattle.runs.specs.declared.tree.Tree.{Tree}
 use Rattle.runs.specs.Trees.{Grown, adds_in}
 use Rattle.runs.specs.Planned.{places_of, adds_of}
-use Rattle.runs.proofs.PlannedScans.{planned_least}
+use Rattle.runs.proofs.Growing.{lacked}
+use Rattle.runs.proofs.PlannedScans.{planned_least, parents_are}
 use Rattle.runs.proofs.PlanTrees.{planned_places, planned_order, planned_parents, planned_grown}
 
 -- the plan of a shape, and its tables
@@ -39,3 +40,6 @@ module _ (shape : Shape) (p : Plan) (planned : Planned (dims_of shape) p) where
     pub adds_are : (m : ℕ) → m + 1 < 2 ^ length ds → get_or adds m 0 ≡ adds_of ds (group (length ds) m)
     unfolding adds_of
     adds_are m l = ap (λ xs. get_or xs m 0) added ∙ planned.adding m l
+
+    pub adds_few : (m : ℕ) → m + 1 < 2 ^ length ds → get_or adds m 0 < 6
+    adds_few m l = omega (arith, adds_are m l, (lacked ds (adds_of ds) (parents_are ds (limits shape)) m l).0, (limits shape).few_dims)

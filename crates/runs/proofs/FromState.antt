@@ -1,19 +1,21 @@
--- What the facts of a run's state say: the control is that of the plan's scan, and the regions are those of its plan.
+-- What the facts of a run's state say: the control is that of the plan's scan, and the regions are those of its order and parents.
 use Rattle.std.proofs.Common.{◌≡◌, ℕ, ◌+◌, ◌-◌, ◌^◌, ◌<◌, List, length, get_or, ap, subst, arith}
 use Rattle.std.proofs.lemmas.Nat.{pow_pos}
 use Rattle.shapes.specs.declared.dims.Dim.{Dim}
 use Rattle.shapes.specs.Arrays.{volume, group}
 use Rattle.shapes.specs.Views.{dims_of}
+use Rattle.shapes.proofs.Held.{limits}
 use Rattle.cubes.specs.Summaries.{Divided}
 use Rattle.runs.specs.declared.state.State.{State}
 use Rattle.runs.specs.Trees.{Grown}
 use Rattle.runs.specs.Controls.{Controls}
-use Rattle.runs.specs.Emptying.{EmptiedMask}
 use Rattle.runs.specs.Grids.{LaidOut, Bases, top as top_mask}
 use Rattle.runs.specs.Layouts.{mask_base}
 use Rattle.runs.specs.Planned.{places_of, adds_of, need_of}
 use Rattle.runs.proofs.FromShape.{shape_divided}
-use Rattle.runs.proofs.LaidRegions.{laid_of, adding_of, based_of}
+use Rattle.runs.proofs.Growing.{lacked}
+use Rattle.runs.proofs.PlannedScans.{parents_are}
+use Rattle.runs.proofs.Tables.{bases_are}
 
 module _ (s : State) where
   abbrev pub ds : List Dim
@@ -35,9 +37,9 @@ module _ (s : State) where
   unfolding need_of
   needs = s.planned.needing
 
-  -- the regions: what their own facts say of their shape, they say of the state's
+  -- the regions: in the plan's order, with its parents
   pub laid_in : LaidOut ds (places_of ds) s.regions.layout
-  laid_in = subst (λ h. LaidOut (dims_of h) (places_of (dims_of h)) s.regions.layout) s.laid (laid_of s.regions.layout s.regions.placed s.regions.adding)
+  laid_in = record { few = (limits s.shape).few_dims; shaped = ap dims_of s.laid; placed = s.placed }
 
   pub same_top : top_mask s.regions.layout ≡ top
   same_top = ap (λ h. 2 ^ length (dims_of h) - 1) s.laid
@@ -46,17 +48,12 @@ module _ (s : State) where
   top_is = omega (arith, pow_pos (length ds))
 
   pub adding_in : (m : ℕ) → m < top → (get_or s.regions.layout.adds m 0 ≡ adds_of ds (group (length ds) m)) × (get_or s.regions.layout.adds m 0 < length ds)
-  adding_in = subst (λ h. (m : ℕ) → m < 2 ^ length (dims_of h) - 1
-      → (get_or s.regions.layout.adds m 0 ≡ adds_of (dims_of h) (group (length (dims_of h)) m)) × (get_or s.regions.layout.adds m 0 < length (dims_of h)))
-      s.laid (adding_of s.regions.layout s.regions.placed s.regions.adding)
+  adding_in m l =
+      let other : m + 1 < 2 ^ length ds = omega arith in
+      (s.adding m other, omega (arith, s.adding m other, (lacked ds (adds_of ds) (parents_are ds (limits s.shape)) m other).0))
 
   pub based_in : Bases s.regions.layout s.regions.layout.adds top (volume ds) s.regions.bases
-  based_in = subst (λ h. Bases s.regions.layout s.regions.layout.adds (2 ^ length (dims_of h) - 1) (volume (dims_of h)) s.regions.bases) s.laid
-      (based_of s.regions.layout s.regions.placed s.regions.adding s.regions.bases s.regions.starts)
+  based_in = subst (λ h. Bases s.regions.layout s.regions.layout.adds (2 ^ length (dims_of h) - 1) (volume (dims_of h)) s.regions.bases) s.laid s.regions.starts
 
   pub starts_in : (m : ℕ) → m < 2 ^ length ds → get_or s.regions.bases m 0 ≡ mask_base ds (places_of ds) (adds_of ds) m
-  starts_in = subst (λ h. (m : ℕ) → m < 2 ^ length (dims_of h) → get_or s.regions.bases m 0 ≡ mask_base (dims_of h) (places_of (dims_of h)) (adds_of (dims_of h)) m) s.laid s.regions.starts
-
-  -- a region emptied, said of the state's shape
-  pub emptied_state : {M : Type 0} {empty : M} (m : ℕ) (xs ys : List M) → EmptiedMask empty (dims_of s.regions.layout.shape) m xs ys → EmptiedMask empty ds m xs ys
-  emptied_state {empty = empty} m xs ys e = subst (λ h. EmptiedMask empty (dims_of h) m xs ys) s.laid e
+  starts_in m l = bases_are ds (places_of ds) (adds_of ds) divided_in s.regions.layout laid_in s.regions.layout.adds top top_is adding_in s.regions.bases based_in m (omega (arith, top_is))

@@ -11,7 +11,8 @@ use Rattle.runs.specs.declared.layouts.Region.{Region}
 use Rattle.runs.specs.declared.refusals.RunRefusal.TheVariants.{TooFew, NoBlock, ShortBuffer}
 use Rattle.runs.specs.declared.steps.NextBlock.{NextBlock}
 use Rattle.runs.specs.Boxes.{box_cells, dot}
-use Rattle.runs.specs.Grids.{block_edges, strides_in, start_of, region_by, region_in}
+use Rattle.runs.specs.Grids.{block_edges, strides_in, start_of, region_by}
+use Rattle.runs.specs.Standing.{region_in}
 use Rattle.runs.specs.Planned.{places_of, adds_of, need_of, block_size, block_after}
 use Rattle.runs.specs.Answers.{View, too_few, waits, hand_name, hand_answer, one_handed}
 use Rattle.runs.specs.Holdings.{Moment, dims_in, view, root_mask}

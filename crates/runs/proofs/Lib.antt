@@ -17,6 +17,7 @@ mod Padding
 mod BlockCells
 mod BlockJoins
 mod RegionBases
+mod RegionEmptied
 mod Tables
 mod HeldRegions
 mod BlockSteps

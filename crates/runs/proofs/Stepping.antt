@@ -1,11 +1,11 @@
 -- The control of a run, from step to step.
-use Rattle.std.proofs.Common.{◌≡◌, ℕ, suc, ◌+◌, ◌-◌, ◌*◌, ◌^◌, ◌<◌, ◌≤◌, Bool, true, false, not, eqb, ltb, ◌↔◌, List, [], ◌∷◌, ◌++◌, length, get_or, set, Some, None, Option, sym, refl, ap, ◌∙◌, subst, ⊎_elim, arith, pow_mono}
+use Rattle.std.proofs.Common.{◌≡◌, ℕ, suc, ◌+◌, ◌-◌, ◌*◌, ◌^◌, ◌<◌, ◌≤◌, Bool, true, false, not, ◌&&◌, eqb, ltb, ◌⊎◌, ◌↔◌, List, [], ◌∷◌, ◌++◌, length, get_or, set, Some, None, Option, sym, refl, ap, ◌∙◌, subst, inl, inr, ⊎_elim, arith, pow_mono}
 use native.Mathlib.Nat.{pow-succ'}
 use Rattle.std.proofs.lemmas.Nat.{mul-le}
 use Rattle.std.specs.List.{ContainsAt as Has}
 use Rattle.std.proofs.ByRecursion.{All-get_or}
 use Rattle.std.proofs.lemmas.List.{length-append, get_or_default}
-use Rattle.std.proofs.lemmas.Bool.{ltb-false, le-ltb, eqb-true, cases_eq, true≢false}
+use Rattle.std.proofs.lemmas.Bool.{ltb-false, le-ltb, eqb-true, eqb-false, cases_Bool, cases_eq, true≢false}
 use Rattle.shapes.specs.declared.dims.Dim.{Dim}
 use Rattle.shapes.specs.Arrays.{Group, Below, number, radix, counts, chunks, total_chunks, mask, group, groups}
 use Rattle.shapes.specs.Limits.{Limits}
@@ -219,7 +219,7 @@ module _ (ds : List Dim) (place : ℕ → ℕ) (adds : Group → ℕ) (c : Contr
 
 -- done
 module _ (ds : List Dim) (place : ℕ → ℕ) (adds : Group → ℕ) (c : Control) (s : Controls ds place adds c) where
-  pub done_then : (w : Bool) → c.passed ≡ c.tree.total → w ≡ ltb c.handed (released ds place adds (groups (length ds)) c.passed)
+  done_then : (w : Bool) → c.passed ≡ c.tree.total → w ≡ ltb c.handed (released ds place adds (groups (length ds)) c.passed)
       → (not w ≡ true) ↔ ((c.passed ≡ total_chunks ds) × (c.handed ≡ released ds place adds (groups (length ds)) c.passed))
   done_then w e is = (
     λ r. (e ∙ s.grown.total, omega (arith, s.until, ltb-false c.handed (released ds place adds (groups (length ds)) c.passed) (sym is ∙ off w r))),
@@ -230,9 +230,20 @@ module _ (ds : List Dim) (place : ℕ → ℕ) (adds : Group → ℕ) (c : Contr
       off true q = sym q
       off false q = refl
 
-  pub done_else : (c.passed ≡ c.tree.total → ⊥)
+  done_else : (c.passed ≡ c.tree.total → ⊥)
       → (eqb c.passed c.tree.total ≡ true) ↔ ((c.passed ≡ total_chunks ds) × (c.handed ≡ released ds place adds (groups (length ds)) c.passed))
   done_else d = (λ r. absurd (d (eqb-true c.passed c.tree.total r)), λ p. absurd (d (p.0 ∙ sym s.grown.total)))
+
+  pub done_is : (w r : Bool) → w ≡ ltb c.handed (released ds place adds (groups (length ds)) c.passed) → r ≡ (eqb c.passed c.tree.total && not w)
+      → (r ≡ true) ↔ ((c.passed ≡ total_chunks ds) × (c.handed ≡ released ds place adds (groups (length ds)) c.passed))
+  done_is w r waits is = by (cases_Bool (eqb c.passed c.tree.total))
+    where
+      goal : Bool → Type 0
+      goal z = (z ≡ true) ↔ ((c.passed ≡ total_chunks ds) × (c.handed ≡ released ds place adds (groups (length ds)) c.passed))
+
+      by : (eqb c.passed c.tree.total ≡ true) ⊎ (eqb c.passed c.tree.total ≡ false) → goal r
+      by (inl t) = subst goal (sym (is ∙ ap (λ z. z && not w) t)) (done_then w (eqb-true c.passed c.tree.total t) waits)
+      by (inr f) = subst goal (sym (is ∙ ap (λ z. z && not w) f ∙ sym f)) (done_else (eqb-false c.passed c.tree.total f))
 
   all_released : c.passed ≡ total_chunks ds → released ds place adds (groups (length ds)) c.passed ≡ block_count ds
   all_released e = ap (released ds place adds (groups (length ds))) e

@@ -7,7 +7,8 @@ use Rattle.runs.specs.declared.state.State.{State}
 use Rattle.runs.specs.declared.tree.Tree.{Tree}
 use Rattle.runs.specs.declared.steps.NextBlock.{NextBlock}
 use Rattle.runs.specs.Trees.{Grown}
-use Rattle.runs.specs.Grids.{block_cells, all_joined, region_in}
+use Rattle.runs.specs.Grids.{block_cells}
+use Rattle.runs.specs.Standing.{all_joined, region_in}
 use Rattle.runs.specs.Contents.{SameRegion, EmptyRegion}
 use Rattle.runs.specs.Planned.{places_of, adds_of, need_of}
 use Rattle.runs.specs.Holdings.{Moment, dims_in}

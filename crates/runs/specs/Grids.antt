@@ -8,7 +8,6 @@ use Rattle.shapes.specs.Views.{dims_of, six}
 use Rattle.cubes.specs.Summaries.{big}
 use Rattle.runs.specs.declared.layouts.Layout.{Layout}
 use Rattle.runs.specs.declared.layouts.Region.{Region}
-use Rattle.runs.specs.declared.layouts.Regions.{Regions}
 use Rattle.runs.specs.Boxes.{box_cells, box_joined, Within, Disjoint}
 
 -- the radix of the region in the dimension i
@@ -106,14 +105,6 @@ children_joined empty op cells y adds bases root p c (suc k) =
     cond (child_at adds p k)
     (block_joined empty op (children_joined empty op cells y adds bases root p c k) y (region_by y adds bases root p) (region_by y adds bases root (p - 2 ^ k)) c)
     (children_joined empty op cells y adds bases root p c k)
-
--- The same in a run's regions
-
-abbrev pub region_in : Regions → ℕ → Region
-region_in s m = region_by s.layout s.layout.adds s.bases (top s.layout) m
-
-abbrev pub all_joined : {M : Type 0} → M → (M → M → M) → List M → Regions → ℕ → List ℕ → ℕ → List M
-all_joined empty op cells s p c k = children_joined empty op cells s.layout s.layout.adds s.bases (top s.layout) p c k
 
 -- what a join of the block c of the region r into the region u asks of n cells
 abbrev pub Joinable : Layout → Region → Region → List ℕ → ℕ → Type 0

@@ -5,6 +5,7 @@ pub mod Controls
 pub mod Boxes
 pub mod Layouts
 pub mod Grids
+pub mod Standing
 pub mod Contents
 pub mod Planned
 pub mod Answers

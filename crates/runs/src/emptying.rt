@@ -1,7 +1,7 @@
 // Regions emptied once their release is over.
 ghost use Rattle.std.specs.Prelude.{◌≡◌, ◌^◌, ◌<◌, ◌≤◌, length};
 ghost use Rattle.shapes.specs.Views.{dims_of};
-ghost use Rattle.runs.specs.Emptying.{EmptiedOver, IsUnder, next_of_release};
+ghost use Rattle.runs.specs.Emptying.{EmptiedMask, EmptiedOver, IsUnder, next_of_release};
 ghost use Rattle.runs.specs.Planned.{adds_of, need_of};
 
 use crate::state::State;
@@ -32,6 +32,15 @@ fn goes_on(state: &State, mask: usize) -> bool
     }
 }
 
+// Empties the region of the group with a mask.
+fn empty_mask<M: Measure>(cells: &mut [M], state: &State, mask: usize)
+    requires enough { need_of (dims_of state.now.shape) ≤ length cells.old }
+    requires below { mask < 2 ^ length (dims_of state.now.shape) }
+    ensures { EmptiedMask M.empty (dims_of state.now.shape) mask cells.old cells.new }
+{
+    state.regions.empty(cells, mask);
+}
+
 // Empties the region of each group whose release is over, from the group with mask `from` up: as long as the block that is next is not of its release.
 pub(crate) fn empty_over<M: Measure>(cells: &mut [M], state: &State, from: usize)
     requires enough { need_of (dims_of state.now.shape) ≤ length cells.old }
@@ -42,7 +51,7 @@ pub(crate) fn empty_over<M: Measure>(cells: &mut [M], state: &State, from: usize
     let root = state.regions.layout.root();
     let mut mask = from;
     'climb: while !goes_on(state, mask) {
-        state.regions.empty(cells, mask);
+        empty_mask(cells, state, mask);
         if mask == root {
             return;
         }

@@ -1,6 +1,7 @@
 // A run of a scan over cells that the caller lends: the cells of all regions in one slice, and the control of what comes next.
 #![tactic(auto)]
 
+mod bases;
 mod blocks;
 mod boxes;
 mod calls;

@@ -1,16 +1,13 @@
 // The regions of a layout: which they are, how many cells each has, and the grid of a block.
-// What a dimension's number, a mask or a plan has to keep to is asked of the functions that take one. A type for a mask would carry its shape, and each parent
-// and each turn of a loop would make one anew; a plan that held its shape would be larger in every copy, for three functions that are handed both.
+// What a dimension's number, a mask or the parents have to keep to is asked of the functions that take one. A type for a mask would carry its shape, and each
+// parent and each turn of a loop would make one anew.
 ghost use Rattle.std.specs.Prelude.{◌≡◌, ℕ, ◌+◌, ◌-◌, ◌^◌, ◌<◌, ◌≤◌, false, None, Some, if◌then◌else◌, length, slice_index, slice_index_or};
-ghost use Rattle.shapes.specs.Arrays.{group, product, radix, volume};
+ghost use Rattle.shapes.specs.Arrays.{product, radix, volume};
 ghost use Rattle.shapes.specs.Views.{dims_of};
-ghost use Rattle.plans.specs.Views.{Planned};
 ghost use Rattle.runs.specs.Grids.{Bases, block_edges, cells_below, cells_in, child_at, first_at, lacked_at, radix_at, region_at, start_of, stride_at, strides_in, top};
-ghost use Rattle.runs.specs.Planned.{adds_of, places_of};
 
 use crate::layouts::{Layout, Region};
 use crate::walks::Grid;
-use plans::Plan;
 use shapes::{Radices, Shape, kept_dimensions};
 
 impl Region {
@@ -24,17 +21,17 @@ impl Region {
 }
 
 impl Layout {
-    // The layout that a plan of the shape gives.
-    pub(crate) fn of(shape: &Shape, plan: &Plan) -> Layout
-        requires { Planned (dims_of shape.now) plan.now }
+    // The layout of a shape, for an order and a choice of parents by mask.
+    pub(crate) fn of(shape: &Shape, places: [u32; 6], adds: [u8; 64]) -> Layout
+        requires { (m : ℕ) → m + 1 < 2 ^ length (dims_of shape.now) → slice_index adds m < 6 }
         ensures shaped { result.shape ≡ shape.now }
-        ensures placed { (i : ℕ) → i < length (dims_of result.shape) → slice_index result.places i ≡ places_of (dims_of result.shape) i }
-        ensures adding { (m : ℕ) → m + 1 < 2 ^ length (dims_of result.shape) → slice_index result.adds m ≡ adds_of (dims_of result.shape) (group (length (dims_of result.shape)) m) }
+        ensures placed { result.places ≡ places }
+        ensures adding { result.adds ≡ adds }
     {
         Layout {
             shape: *shape,
-            places: plan.order(),
-            adds: plan.added(),
+            places,
+            adds,
         }
     }
 

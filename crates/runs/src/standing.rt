@@ -1,25 +1,26 @@
 // The regions of a run: where each stands, blocks joined into the regions of children, and regions emptied.
-// Masks and plans are plain values, as in `regions`.
-ghost use Rattle.std.specs.Prelude.{◌≡◌, ℕ, ◌+◌, ◌-◌, ◌^◌, ◌<◌, ◌≤◌, true, length};
+// Masks, orders and parents are plain values, as in `regions`.
+ghost use Rattle.std.specs.Prelude.{◌≡◌, ℕ, ◌+◌, ◌-◌, ◌^◌, ◌<◌, ◌≤◌, true, length, slice_index};
 ghost use Rattle.shapes.specs.Views.{dims_of};
-ghost use Rattle.plans.specs.Views.{Planned};
-ghost use Rattle.runs.specs.Emptying.{EmptiedMask};
-ghost use Rattle.runs.specs.Grids.{Inside, Joinable, all_joined, block_edges, child_at, region_in, top};
-ghost use Rattle.runs.specs.Planned.{need_of};
+ghost use Rattle.runs.specs.Boxes.{emptied};
+ghost use Rattle.runs.specs.Grids.{Inside, Joinable, block_edges, cells_in, child_at, top};
+ghost use Rattle.runs.specs.Standing.{all_joined, region_in};
 
+use crate::bases::Regions;
 use crate::boxes::empty_cells;
-use crate::layouts::{Layout, Region, Regions};
+use crate::layouts::{Layout, Region};
 use measures::Measure;
-use plans::Plan;
 use shapes::Shape;
 
 impl Regions {
-    // The regions that a plan of the shape asks for.
-    pub(crate) fn of(shape: &Shape, plan: &Plan) -> Regions
-        requires { Planned (dims_of shape.now) plan.now }
-        ensures { result.layout.shape ≡ shape.now }
+    // The regions of a shape, for an order and a choice of parents by mask.
+    pub(crate) fn of(shape: &Shape, places: [u32; 6], adds: [u8; 64]) -> Regions
+        requires { (m : ℕ) → m + 1 < 2 ^ length (dims_of shape.now) → slice_index adds m < 6 }
+        ensures shaped { result.layout.shape ≡ shape.now }
+        ensures placed { result.layout.places ≡ places }
+        ensures adding { result.layout.adds ≡ adds }
     {
-        let layout = Layout::of(shape, plan);
+        let layout = Layout::of(shape, places, adds);
         Regions {
             layout,
             bases: layout.bases(),
@@ -52,9 +53,9 @@ impl Regions {
 
     // Empties the region of the group with a mask.
     pub(crate) fn empty<M: Measure>(&self, cells: &mut [M], mask: usize)
-        requires enough { need_of (dims_of self.now.layout.shape) ≤ length cells.old }
         requires below { mask ≤ top self.now.layout }
-        ensures { EmptiedMask M.empty (dims_of self.now.layout.shape) mask cells.old cells.new }
+        requires room { (region_in self.now mask).base + cells_in self.now.layout (region_in self.now mask) ≤ length cells.old }
+        ensures { cells.new ≡ emptied M.empty cells.old (region_in self.now mask).base (cells_in self.now.layout (region_in self.now mask)) }
     {
         let region = self.region(mask);
         empty_cells(cells, region.base, self.layout.region_len(region));

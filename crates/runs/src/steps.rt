@@ -1,6 +1,6 @@
 // How the state of a run goes on.
-ghost use Rattle.std.specs.Prelude.{◌≡◌, ℕ, ◌+◌, ◌^◌, ◌<◌, true, false, length, is_some, Some, MatchResult};
-ghost use Rattle.shapes.specs.Arrays.{total_chunks};
+ghost use Rattle.std.specs.Prelude.{◌≡◌, ℕ, ◌+◌, ◌^◌, ◌<◌, true, false, length, is_some, Some, MatchResult, slice_index};
+ghost use Rattle.shapes.specs.Arrays.{group, total_chunks};
 ghost use Rattle.shapes.specs.Views.{dims_of};
 ghost use Rattle.plans.specs.Views.{Planned};
 ghost use Rattle.runs.specs.Answers.{close_answer, count_answer, done, hand_name, next_chunk, too_few, waits};
@@ -9,9 +9,9 @@ ghost use Rattle.runs.specs.Planned.{adds_of, block_after, need_of, places_of, s
 ghost use Rattle.runs.specs.Steps.{Begins, BlockToHand, HandsOn, IsNextBlock, PassesOn, SamePlan};
 ghost use Rattle.runs.specs.Trees.{Grown};
 
+use crate::bases::Regions;
 use crate::control::Control;
 use crate::counts::{Closed, Counts};
-use crate::layouts::Regions;
 use crate::numbering::{Block, block_cells};
 use crate::refusals::RunRefusal;
 use crate::state::State;
@@ -28,12 +28,23 @@ pub(crate) struct NextBlock {
     pub(crate) cells: usize,
 }
 
+// A plan that held its shape would be larger in every copy, for the two functions that are handed both.
 // The tree of the plan's order and parents.
 fn plan_tree(shape: &Shape, plan: &Plan) -> Tree
     requires { Planned (dims_of shape.now) plan.now }
     ensures { Grown (dims_of shape.now) (places_of (dims_of shape.now)) (adds_of (dims_of shape.now)) result }
 {
     Tree::of(shape, plan.order(), plan.added())
+}
+
+// The regions in the plan's order and with its parents.
+fn plan_regions(shape: &Shape, plan: &Plan) -> Regions
+    requires { Planned (dims_of shape.now) plan.now }
+    ensures shaped { result.layout.shape ≡ shape.now }
+    ensures placed { (i : ℕ) → i < length (dims_of shape.now) → slice_index result.layout.places i ≡ places_of (dims_of shape.now) i }
+    ensures adding { (m : ℕ) → m + 1 < 2 ^ length (dims_of shape.now) → slice_index result.layout.adds m ≡ adds_of (dims_of shape.now) (group (length (dims_of shape.now)) m) }
+{
+    Regions::of(shape, plan.order(), plan.added())
 }
 
 impl State {
@@ -45,7 +56,7 @@ impl State {
         State {
             shape,
             plan,
-            regions: Regions::of(&shape, &plan),
+            regions: plan_regions(&shape, &plan),
             taken: 0,
             skipped: 0,
             control: Control::start(plan_tree(&shape, &plan)),

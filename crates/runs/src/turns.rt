@@ -1,5 +1,5 @@
 // Which block is handed out next.
-ghost use Rattle.std.specs.Prelude.{◌≡◌, ◌+◌, ◌^◌, ◌<◌, true, is_some, Some, None};
+ghost use Rattle.std.specs.Prelude.{◌≡◌, ◌+◌, ◌^◌, ◌<◌, true, not, ◌&&◌, is_some, Some, None, ◌==◌};
 ghost use Rattle.runs.specs.Trees.{NumberOf};
 ghost use Rattle.runs.specs.Controls.{Advances, DoneExactly, FirstChild, Here, IsControlled, NextAt, NextBlock, Passes, Seen, Starts, WaitsExactly, is_waiting, waiting};
 
@@ -7,6 +7,13 @@ use crate::control::Control;
 use crate::numbering::Block;
 use crate::progress::Progress;
 use crate::tree::Tree;
+
+// Whether so many chunks passed are all of them, and no block waits.
+fn all_over(passed: u64, total: u64, waits: bool) -> bool
+    ensures { result ≡ (passed == total && not waits) }
+{
+    passed == total && !waits
+}
 
 // Masks are plain numbers, as in `regions`, so that each is below the number of groups is asked where one comes in.
 impl Control {
@@ -132,6 +139,6 @@ impl Control {
     pub(crate) fn is_done(&self) -> bool
         ensures { DoneExactly self.now result }
     {
-        self.passed == self.tree.total && !self.waits()
+        all_over(self.passed, self.tree.total, self.waits())
     }
 }

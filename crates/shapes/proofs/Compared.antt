@@ -1,5 +1,6 @@
 -- Shapes compared by their dimensions.
-use Rattle.std.proofs.Common.{◌≡◌, Bool, List, take, Decides, sym, ap, ap₂, ◌∙◌}
+use Rattle.std.proofs.Common.{◌≡◌, Bool, ◌&&◌, List, [], ◌∷◌, take, length, Decides, refl, sym, ap, ap₂, ◌∙◌, arith}
+use Rattle.std.specs.List.{zip, list_all}
 use Rattle.std.specs.Cmp.Lexicographic.{pointwise_decides}
 use Rattle.std.proofs.lemmas.Bool.Decides.{same_from_decides, Decides-eqb, Decides-and}
 use Rattle.shapes.specs.declared.dims.Dim.{Dim}
@@ -26,3 +27,10 @@ pub same_six_decides : (s t : Shape) (r : Bool) → s.n ≡ t.n → r ≡ same_d
 same_six_decides s t r n e =
     let d = same_dims_decides s.dims t.dims in
     (λ h. ap₂ take n (d.0 (sym e ∙ h)), λ h. e ∙ d.1 (held_six s ∙ (ap (six none_dim) h ∙ sym (held_six t))))
+
+-- pair by pair
+pub all_zip_same : (ds es : List Dim) → length ds ≡ length es → list_all (λ (p : Dim × Dim). same_dim p.0 p.1) (zip ds es) ≡ same_dims ds es
+all_zip_same [] [] l = refl
+all_zip_same [] (e ∷ es) l = absurd (omega arith)
+all_zip_same (d ∷ ds) [] l = absurd (omega arith)
+all_zip_same (d ∷ ds) (e ∷ es) l = ap (λ b. same_dim d e && b) (all_zip_same ds es (omega arith))

@@ -1,4 +1,6 @@
 // A table of corrections, and a source with such a table over it.
+ghost use Rattle.std.specs.Prelude.{◌≤◌, length};
+
 use arrayvec::ArrayVec;
 
 // `Default` is what an `ArrayVec` of them is made with.
@@ -15,4 +17,5 @@ pub struct Correction {
 pub struct Corrections<S> {
     pub(crate) below: S,
     pub(crate) table: ArrayVec<Correction, 32>,
+    ghost few: { length table.items ≤ 32 },
 }

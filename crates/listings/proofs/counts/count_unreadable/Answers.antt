@@ -8,7 +8,7 @@ use Rattle.listings.proofs.counts.count_unreadable.Goals as goal
 pub overflow_add-count : goal.overflow_add-count
 overflow_add-count g c =
     let σ = means g.S.Shaped.told g.S.Source.contents c.args.source.now in
-    let one = byte_counts c.is_err.result c.from-count.result c.from-count.ensures in
+    let one = byte_counts _ c.from-count.result c.from-count.ensures in
     omega (arith, c.loop-number.invariant.1, count_bound (λ k. is_err (fetch_answer σ k (length c.args.buffer.now))) c.loop-number.number)
 
 pub loop-number-preserved : goal.loop-number-preserved

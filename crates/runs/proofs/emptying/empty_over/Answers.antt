@@ -3,7 +3,7 @@ use Rattle.shapes.proofs.Held.{limits}
 use Rattle.runs.specs.Planned.{places_of, adds_of}
 use Rattle.runs.specs.Trees.{node}
 use Rattle.runs.proofs.PlannedScans.{planned_scan}
-use Rattle.runs.proofs.FromState.{ds, grown_in, same_top, top_is, emptied_state}
+use Rattle.runs.proofs.FromState.{ds, grown_in, same_top, top_is}
 use Rattle.runs.proofs.Steering.{same_groups, up_below, up_above}
 use Rattle.runs.proofs.ReleaseMasks.{release_below, climb_step}
 use Rattle.runs.proofs.ReleasesOver.{begins_at, climbs, ends_within, ends_past}
@@ -19,10 +19,10 @@ returns-then-mask-root g c =
     let s = c.args.state.now in
     let S = planned_scan (ds s) (limits s.shape) in
     let m = c.climb.mask in
-    ends_past g.M.Measure.empty (ds s) S c.args.from c.requires.below s.control.next c.args.cells.now c.empty.new.cells
+    ends_past g.M.Measure.empty (ds s) S c.args.from c.requires.below s.control.next c.args.cells.now c.empty_mask.new.cells
     (climbs g.M.Measure.empty (ds s) S c.args.from c.requires.below s.control.next c.args.cells.now m (2 ^ length (ds s)) c.climb.invariant.0
-    c.climb.cells c.empty.new.cells c.climb.invariant.0 (λ k l a b. absurd (omega (arith, top_is s, same_top s, c.root-root.ensures.mask))) (λ k l b. absurd (omega arith)) c.climb.invariant.1
-    (sym c.climb-test.ensures) (emptied_state s c.climb.mask c.climb.cells c.empty.new.cells c.empty.ensures))
+    c.climb.cells c.empty_mask.new.cells c.climb.invariant.0 (λ k l a b. absurd (omega (arith, top_is s, same_top s, c.root-root.ensures.mask))) (λ k l b. absurd (omega arith)) c.climb.invariant.1
+    (sym c.climb-test.ensures) c.empty_mask.ensures)
 
 pub climb-preserved : goal.climb-preserved
 climb-preserved g c =
@@ -36,11 +36,11 @@ climb-preserved g c =
     let high : m < more = up_above (ds s) (places_of (ds s)) (adds_of (ds s)) s.control.tree (grown_in s) m other in (
       omega arith,
       climbs g.M.Measure.empty (ds s) S c.args.from c.requires.below s.control.next c.args.cells.now m more c.climb.invariant.0
-          c.climb.cells c.empty.new.cells high
+          c.climb.cells c.empty_mask.new.cells high
           (λ k l a b. sym (climb_step (ds s) (places_of (ds s)) (adds_of (ds s)) s.control.tree (grown_in s) k m a (omega arith))
           ∙ release_below (ds s) (places_of (ds s)) (adds_of (ds s)) S k more b (omega arith))
           (λ k l b. climb_step (ds s) (places_of (ds s)) (adds_of (ds s)) s.control.tree (grown_in s) k m (omega arith) (omega arith))
-          c.climb.invariant.1 (sym c.climb-test.ensures) (emptied_state s c.climb.mask c.climb.cells c.empty.new.cells c.empty.ensures),
+          c.climb.invariant.1 (sym c.climb-test.ensures) c.empty_mask.ensures,
     )
 
 pub returns : goal.returns

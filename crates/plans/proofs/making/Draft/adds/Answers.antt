@@ -1,18 +1,18 @@
-use Rattle.std.proofs.Common.{rules, ℕ, ◌+◌, ◌^◌, ◌≤◌, cond, ltb, map, length, get_or, sym, ap, ◌∙◌, pow_mono, arith}
-use borrow.Author.Tests.{tests}
-use Rattle.std.specs.List.{range_with_len}
-use Rattle.std.proofs.lemmas.Bool.{lt-ltb}
-use Rattle.std.proofs.lemmas.List.FromFn.{length-map-range_with_len, get_or-map-range_with_len}
-use Rattle.shapes.specs.Arrays.{group}
-use Rattle.plans.specs.Plans.{plan_adds}
-use Rattle.shapes.proofs.Made.{made_from_fn}
+use Rattle.std.proofs.Common.{ℕ, ◌-◌, ◌^◌, ◌≤◌, length, sym, ◌∙◌, pow_mono, arith}
+use Rattle.std.proofs.lemmas.List.{length-take-le}
 use Rattle.plans.proofs.making.Draft.adds.Goals as goal
 
-pub returns : goal.returns
-returns c =
-    let ds = c.args.self.now.dims.now in
-    let f : ℕ → ℕ = λ m. cond (ltb (m + 1) (2 ^ length ds)) (plan_adds ds (group (length ds) m)) 0 in
-    let all = made_from_fn _ f 0 c.from_fn.result (map f (range_with_len 0 64)) c.from_fn.ensures.items (length-map-range_with_len f 0 64) (λ i y q l k. search (rules, tests)) (λ i l. sym (get_or-map-range_with_len f 0 64 i i 0 l (omega arith))) in
-    λ m h.
-    let few : 2 ^ length ds ≤ 2 ^ 6 = pow_mono c.args.self.now.few in
-    ap (λ xs. get_or xs m 0) all ∙ (get_or-map-range_with_len f 0 64 m m 0 (omega arith) (omega arith) ∙ ap (λ t. cond t (plan_adds ds (group (length ds) m)) 0) (lt-ltb (m + 1) (2 ^ length ds) h))
+few_others : (n k : ℕ) → n ≤ 6 → k ≤ 2 ^ n - 1 → k ≤ 64
+few_others n k few h = let most : 2 ^ n ≤ 2 ^ 6 = pow_mono few in omega arith
+
+pub slice_bounds-adds-end : goal.slice_bounds-adds-end
+slice_bounds-adds-end c = let d = c.args.self.now in few_others (length d.dims.now) c.others.result d.few (omega (arith, c.others.ensures))
+
+pub slice_bounds-others-end : goal.slice_bounds-others-end
+slice_bounds-others-end c =
+    let d = c.args.self.now in sym (length-take-le c.others.result _ (few_others (length d.dims.now) c.others.result d.few (omega (arith, c.others.ensures))))
+
+pub loop-mask-init : goal.loop-mask-init
+loop-mask-init c =
+    let d = c.args.self.now in
+    (length-take-le c.others.result _ (few_others (length d.dims.now) c.others.result d.few (omega (arith, c.others.ensures))) ∙ c.others.ensures, λ k l. absurd (omega arith))

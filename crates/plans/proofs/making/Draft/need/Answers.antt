@@ -22,7 +22,7 @@ overflow_add-result c =
     let ds = d.dims.now in
     let n : ℕ = 2 ^ length ds - 1 in
     let all = sum_from_yields_List _ c.sum-cells.result c.sum-cells.ensures.ran (YieldsList-from_map _ (group_need ds) (YieldsList-at c.map.ensures.source (YieldsList-from_range 0 c.others.result n refl (omega arith))) c.map.ensures.closure (λ x r q k. search (rules, tests))) in
-    omega (arith, all, need_by_mask ds, need_small ds d.edged d.few d.small, c.requires)
+    omega (arith, all, need_by_mask ds, need_small ds d.edged d.few d.small, c.requires.chunk)
 
 pub returns : goal.returns
 unfolding group_need
@@ -30,4 +30,4 @@ returns c =
     let ds = c.args.self.now.dims.now in
     let n : ℕ = 2 ^ length ds - 1 in
     let all = sum_from_yields_List _ c.sum-cells.result c.sum-cells.ensures.ran (YieldsList-from_map _ (group_need ds) (YieldsList-at c.map.ensures.source (YieldsList-from_range 0 c.others.result n refl (omega arith))) c.map.ensures.closure (λ x r q k. search (rules, tests))) in
-    omega (arith, all, need_by_mask ds, c.requires)
+    omega (arith, all, need_by_mask ds, c.requires.chunk)

@@ -22,8 +22,8 @@ invariant_of-draft c =
       placed = taken_places ds few n c.places_of-places.result (c.dimensions-n.ensures ∙ ap length e) c.places_of-places.ensures;
     }
 
-pub need-need-requires : goal.need-need-requires
-need-need-requires c =
+pub need-need-requires-clause-chunk : goal.need-need-requires-clause-chunk
+need-need-requires-clause-chunk c =
     c.chunk_cells.ensures ∙ ap volume (sym (taken_dims c.args.shape.now c.dimensions-n.result c.dims-dims.result c.dimensions-n.ensures c.dims-dims.ensures))
 
 pub invariant_of-result : goal.invariant_of-result

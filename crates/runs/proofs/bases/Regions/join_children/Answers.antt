@@ -1,10 +1,11 @@
 use Rattle.std.proofs.Common.{◌≡◌, ℕ, ◌-◌, ◌^◌, length, sym, ap, ◌∙◌, arith}
 use Rattle.runs.specs.declared.layouts.Region.{Region}
-use Rattle.runs.specs.Grids.{region_in, child_at, block_joined, all_joined, top}
+use Rattle.runs.specs.Grids.{child_at, block_joined, top}
+use Rattle.runs.specs.Standing.{region_in, all_joined}
 use Rattle.runs.proofs.Children.{child_found, child_none, child_step, other_step, ready_same}
 use Rattle.runs.proofs.LaidRegions.{mask_few}
-use Rattle.runs.proofs.layouts.Regions.join_children.Goals as goal
-use Rattle.runs.proofs.layouts.Regions.join_children.Goals.{in-Some, in_default}
+use Rattle.runs.proofs.bases.Regions.join_children.Goals as goal
+use Rattle.runs.proofs.bases.Regions.join_children.Goals.{in-Some, in_default}
 
 pub child-requires : goal.child-requires
 child-requires g c = (omega arith, mask_few c.args.self.now.layout c.args.mask c.requires.below)
