@@ -94,7 +94,8 @@ impl Draft<'_> {
 
     // By mask, the dimension that each group's parent adds; 0 for the root and past it.
     fn adds(&self) -> [u8; 64]
-        ensures { (m : ℕ) → m + 1 < 2 ^ length self.now.dims.now → slice_index result m ≡ plan_adds self.now.dims.now (group (length self.now.dims.now) m) }
+        ensures others { (m : ℕ) → m + 1 < 2 ^ length self.now.dims.now → slice_index result m ≡ plan_adds self.now.dims.now (group (length self.now.dims.now) m) }
+        ensures past { (m : ℕ) → 2 ^ length self.now.dims.now ≤ m + 1 → slice_index result m ≡ 0 }
     {
         let mut adds = [0; 64];
         let others = &mut adds[..self.others() as usize];

@@ -1,9 +1,10 @@
-use Rattle.std.proofs.Common.{rules, ◌*◌, ◌^◌, ◌≤◌, ◌<◌, ◌≡◌, length, get_or, refl, ap, ◌∙◌, pow_mono, arith}
+use Rattle.std.proofs.Common.{rules, ◌*◌, ◌^◌, ◌≤◌, ◌<◌, ◌≡◌, length, get_or, refl, ap, ◌∙◌, arith}
 use borrow.Author.Tests.{tests}
 use Rattle.std.proofs.lemmas.Iterator.{YieldsList-from_slice, YieldsList-from_zip, YieldsList-from_map}
 use Rattle.std.proofs.lemmas.Iterator.Adapters.{total_from_yields_List}
 use Rattle.shapes.specs.Arrays.{group}
 use Rattle.plans.specs.Plans.{cells, plan_place, plan_adds}
+use Rattle.plans.proofs.Few.{few_masks}
 use Rattle.plans.proofs.Dims.{places_long}
 use Rattle.plans.proofs.LeastNeed.{cells_at_most}
 use Rattle.plans.proofs.Picking.{adds_inside}
@@ -11,7 +12,7 @@ use Rattle.plans.proofs.Cells.{product_fits, product_of, brought, shares_some, s
 use Rattle.plans.proofs.making.Draft.group_cells.Goals as goal
 
 pub bounds-adds-mask : goal.bounds-adds-mask
-bounds-adds-mask c = let few : 2 ^ length c.args.self.now.dims.now ≤ 2 ^ 6 = pow_mono c.args.self.now.few in omega (arith, c.requires.other)
+bounds-adds-mask c = let d = c.args.self.now in omega (arith, c.requires.other, few_masks (length d.dims.now) d.few)
 
 pub bounds-self-added : goal.bounds-self-added
 bounds-self-added c =

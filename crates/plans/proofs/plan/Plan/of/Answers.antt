@@ -34,7 +34,7 @@ invariant_of-result c =
     let en : n ≡ length ds = c.dimensions-n.ensures ∙ ap length (sym (taken_dims s n c.dims-dims.result c.dimensions-n.ensures c.dims-dims.ensures)) in
     record {
       few = omega (arith, few_dims s, c.dimensions-n.ensures);
-      below = subst (λ k. (m : ℕ) → m + 1 < 2 ^ k → slice_index c.adds-adds.result m < k) (sym en) (λ m h. rw (c.adds-adds.ensures m h) (adds_inside ds m h));
+      below = subst (λ k. (m : ℕ) → m + 1 < 2 ^ k → slice_index c.adds-adds.result m < k) (sym en) (λ m h. rw (c.adds-adds.ensures.others m h) (adds_inside ds m h));
     }
 
 pub returns : goal.returns
@@ -45,7 +45,7 @@ returns c =
       planned = record {
         counted = c.dimensions-n.ensures;
         placed = c.places_of-places.ensures ∙ ap (λ ds. six 0 (map (plan_place ds) (numbers ds))) e;
-        adding = subst (λ (ds : List Dim). (m : ℕ) → m + 1 < 2 ^ length ds → slice_index c.adds-adds.result m ≡ plan_adds ds (group (length ds) m)) e c.adds-adds.ensures;
+        adding = subst (λ (ds : List Dim). (m : ℕ) → m + 1 < 2 ^ length ds → slice_index c.adds-adds.result m ≡ plan_adds ds (group (length ds) m)) e c.adds-adds.ensures.others;
         needing = c.need-need.ensures ∙ ap plan_need e;
       };
       least = least_need (dims_of s) (edged_dims s);
